@@ -57,7 +57,7 @@ high_class s h = go (ltb s 103) refl
     go true e = span_of (λ s. outer (target s)) 0 93 10 refl s h (ltb-true s 103 e)
     go false e = rw (far_copied s (ltb-false s 103 e))
 
-kind_few : (s : ℕ) → target_of (target s) < 14
+pub kind_few : (s : ℕ) → target_of (target s) < 14
 kind_few s = go (ltb s 256) refl
   where
     go : (x : Bool) → ltb s 256 ≡ x → target_of (target s) < 14
@@ -68,24 +68,10 @@ kind_few s = go (ltb s 256) refl
 code_seven : (t : Tab) → code_t t ≡ 7 → ⊥
 code_seven t e = omega (arith, code_low t)
 
-code_six : (t : Tab) → code_t t ≡ 6 → ⊥
-code_six t e = omega (arith, code_low t)
-
 -- all but functions, through the rows and the function's own map
 module _ (words : List ℕ) (maps : List (List ℕ)) (exprmap : List ℕ) where
   abbrev W : Place → ℕ → ℕ
   W = went_by maps exprmap
-
-  -- nothing
-  nothing-W : (g : Target) (w : ℕ) → target_of g ≡ 6 → w ≡ carry_w W g w
-  unfolding target_of code_p carry_w
-  nothing-W copied w q = refl
-  nothing-W start w q = refl
-  nothing-W upto w q = refl
-  nothing-W (ref (table t)) w q = absurd (code_six t q)
-  nothing-W (ref own) w q = absurd (omega arith)
-  nothing-W (ref function) w q = absurd (omega arith)
-  nothing-W (opt p) w q = absurd (omega arith)
 
   -- a record of a table
   row_small : (g : Target) (w : ℕ) → 0 ≡ inner g → (target_of g ≡ 7 → ⊥) → target_of g < 14 → All (FitN words 1024) (ref_of g w []) → All Small (ref_of g w [])
@@ -170,10 +156,6 @@ module _ (words : List ℕ) (maps : List (List ℕ)) (exprmap : List ℕ) where
 
   -- ---- the word w of the class s
   module _ (s w u : ℕ) (is : (u ≡ target_of (target s)) × (u < 14)) (fit : All (FitN words 1024) (ref_of (target s) w [])) where
-    pub carries_nothing : u ≡ 6 → w ≡ through W s w
-    unfolding through
-    carries_nothing q = nothing-W (target s) w (sym is.0 ∙ q)
-
     module _ (ne : u ≡ 7 → ⊥) where
       pub carries_small : s < 93 → All Small (ref_of (target s) w [])
       carries_small h = row_small (target s) w (low_class s h) (λ q. ne (is.0 ∙ q)) (omega arith) fit

@@ -20,7 +20,7 @@ use Rattle.derive_state.proofs.Unlike.{all-at, unlike}
 use Rattle.function_references.specs.Fits.{FitN, Legible}
 use Rattle.function_references.specs.Cuts.{next_of, Rising}
 use Rattle.function_builder.specs.Stacks.{seats_of, made_of, Stacks}
-use Rattle.function_builder.specs.Makes.{Hops, Apart}
+use Rattle.function_builder.specs.Makes.{Hops}
 use Rattle.function_builder.proofs.Stacked.{Seating, seat_room, seat_first, seat_at, seat_within, seat_found, seat_more, seat_last}
 
 -- ---- a word that is another, and no span's
@@ -86,17 +86,11 @@ module _ (words tags : List ℕ) (went : Place → ℕ → ℕ) (at end : ℕ) (
       sieve_within = seat_within stacks e₁ e C S R many k G.seating h a b ha hb
 
       -- it is the one, or not
-      module _ (d : ℕ) (A : Apart at end (alike (between (row stacks 1) (row stacks 0) a b) C) d) where
-        pub sieve_found : d ≡ end → k ≡ index_of (made_of stacks e₁ e) C
-        sieve_found q = seat_found stacks e₁ e C S R many k G.seating h a b ha hb true (A.all q) refl
+      pub sieve_found : true ≡ alike (between (row stacks 1) (row stacks 0) a b) C → k ≡ index_of (made_of stacks e₁ e) C
+      sieve_found q = seat_found stacks e₁ e C S R many k G.seating h a b ha hb true q refl
 
-        pub sieve_more : (d ≡ end → ⊥) → (z : ℕ) → z ≡ through went (get_or tags d 0) (get_or words d 0) → Sieving words tags went at end stacks e₁ e (k + 1) d z
-        sieve_more ne z ze = record {
-          seating = seat_more stacks e₁ e C S R many k G.seating h a b ha hb false (A.not ne) refl;
-          low = A.low;
-          high = let l = A.high in omega arith;
-          word = ze;
-        }
+      pub sieve_more : (d : ℕ) → (at ≤ d) × (d < end) × (false ≡ alike (between (row stacks 1) (row stacks 0) a b) C) → (z : ℕ) → z ≡ through went (get_or tags d 0) (get_or words d 0) → Sieving words tags went at end stacks e₁ e (k + 1) d z
+      sieve_more d f z ze = record { seating = seat_more stacks e₁ e C S R many k G.seating h a b ha hb false f.2 refl; low = f.0; high = f.1; word = ze }
 
       passed : false ≡ alike (between (row stacks 1) (row stacks 0) a b) C → Sieving words tags went at end stacks e₁ e (k + 1) p y
       passed q = record { seating = seat_more stacks e₁ e C S R many k G.seating h a b ha hb false q refl; low = G.low; high = G.high; word = G.word }

@@ -1,5 +1,5 @@
 -- What an operation does to a function under construction.
-use Rattle.std.specs.Prelude.{◌≡◌, Bool, true, false, List, ℕ, ◌+◌, ◌≤◌, ◌<◌, length, get_or, take}
+use Rattle.std.specs.Prelude.{◌≡◌, true, false, List, ℕ, ◌+◌, ◌≤◌, ◌<◌, length, get_or, take}
 use Rattle.model.specs.Outcome.{Cells}
 use Rattle.model.specs.Tree.{flat_all}
 use Rattle.model.specs.References.{alike_c}
@@ -54,13 +54,6 @@ pub record Hops (stacks : List (List ℕ)) (e₁ made i s y k r : ℕ) : Type 0 
   pub low : k ≤ r
   pub high : r ≤ made
   pub not : (j : ℕ) → k ≤ j → j < r → (c : ℕ) → cell stacks 2 (e₁ + j) + i < 16384 → alike_c (c, cell stacks 0 (cell stacks 2 (e₁ + j) + i)) (s, y) ≡ false
-
--- the first word, from `at` on, in which two records differ; `end` where they are alike
-pub record Apart (at end : ℕ) (same : Bool) (r : ℕ) : Type 0 where
-  pub low : at ≤ r
-  pub high : r ≤ end
-  pub all : r ≡ end → true ≡ same
-  pub not : (r ≡ end → ⊥) → false ≡ same
 
 -- one word more on the other
 pub record Pushed (w : ℕ) (stacks₀ : List (List ℕ)) (e r : Sizes) (stacks : List (List ℕ)) : Type 0 where

@@ -3,7 +3,7 @@
 // function of the same name. An expression is appended, or, where it belongs to an initialiser, merged.
 #![tactic(auto)]
 
-ghost use Rattle.std.specs.Prelude.{◌≡◌, false, List, [], ℕ, ◌+◌, ◌-◌, ◌≤◌, ◌<◌, length, drop};
+ghost use Rattle.std.specs.Prelude.{MatchOption, ◌≡◌, true, false, List, [], ℕ, ◌+◌, ◌-◌, ◌≤◌, ◌<◌, length, drop};
 ghost use Rattle.std.proofs.Math.Seq.{slice};
 ghost use Rattle.std.proofs.lemmas.List.Edits.{sets};
 ghost use Rattle.model.specs.References.{target, ref_of, through, first_word, undefined_at, shift, alike_c, alike, index_of as seat_of};
@@ -19,15 +19,15 @@ ghost use Rattle.derive_lookup.specs.Bearing.{Bearing};
 ghost use Rattle.function_references.specs.Fits.{FitN, Ground, Legible};
 ghost use Rattle.function_references.specs.Cuts.{next_of, Rising, exprs_of, Expressions};
 ghost use Rattle.function_builder.specs.Stacks.{went_by, went_of, seats_of, made_of, Stacks, Under};
-ghost use Rattle.function_builder.specs.Makes.{Lays, Wrote, Hops, Apart, Pushed};
+ghost use Rattle.function_builder.specs.Makes.{Lays, Wrote, Hops, Pushed};
 
 use base_classes::{EXPR, SPAN, UPTO};
 use base_views::Image;
 use base_words::Tags;
 use derive_lookup::known;
 use derive_state::{
-    Derived, ExprMap, FUNCTION, Log, LogTags, Maps, NOTHING, OPT_OWN, OWN, Places, Sizes,
-    StackRows, Starts, mark_full, moved, number_of, target_of,
+    Derived, ExprMap, FUNCTION, Log, LogTags, Maps, OPT_OWN, OWN, Places, Sizes, StackRows, Starts,
+    mark_full, moved, number_of, target_of,
 };
 
 // The rows of the stacks: words and classes of expressions, where each of them starts, and words of declarations, bodies and names.
@@ -54,23 +54,15 @@ pub fn by_maps(maps: &Maps, exprmap: &ExprMap, s: u8, w: u32) -> u32
     requires by_index { (ws : List ℕ) × All (FitN ws 1024) (ref_of (target s) w []) }
     ensures { result ≡ through (went_by maps.now exprmap.now) s w }
 {
-    let u = target_of(s);
-    if u == NOTHING {
-        return w;
-    }
     if s < EXPR {
         return derive_state::carried(maps, s, w);
     }
-    if u == OWN {
-        return number_of(exprmap[w as usize] as u32);
+    match target_of(s) {
+        OWN => number_of(exprmap[w as usize] as u32),
+        OPT_OWN if w == 0 => 0,
+        OPT_OWN => exprmap[(w - 1) as usize] as u32,
+        _ => w,
     }
-    if u == OPT_OWN {
-        if w == 0 {
-            return 0;
-        }
-        return exprmap[(w - 1) as usize] as u32;
-    }
-    w
 }
 
 // A word carried through the maps, or to the function of its name.
@@ -107,13 +99,7 @@ fn undefined_at(
     if s != SPAN {
         return u;
     }
-    if w != 0 {
-        return false;
-    }
-    if i < end {
-        return carried(image, derived, exprmap, image.tags[i], image.words[i]) == 0;
-    }
-    true
+    w == 0 && (end <= i || carried(image, derived, exprmap, image.tags[i], image.words[i]) == 0)
 }
 
 // Writes what the source's words from `at` to `end` become on the top of the stack of expressions.
@@ -190,11 +176,12 @@ pub fn append(
 fn alike_cell(a: u32, x: u32, b: u8, y: u32) -> bool
     ensures { result ≡ alike_c (a, x) (b, y) }
 {
+    // Not that of derive_state: the rows of the stack, in the caller's fixed memory, have a class as u32, and nothing says that it is below 256.
     a == b as u32 && (x == y || b == SPAN || b == UPTO)
 }
 
 // The first of the source's words, from `at` on, that does not become, ignoring spans, the word in its place of the expression on the stack from a to b, which
-// is as long; or `end`.
+// is as long.
 fn first_difference(
     image: Image,
     derived: &Derived,
@@ -204,23 +191,23 @@ fn first_difference(
     end: usize,
     a: usize,
     b: usize,
-) -> usize
+) -> Option<usize>
     requires ground { Ground image.words.now image.tags.now target_bytes image.n }
     requires bearing { Bearing derived.now.log.now derived.now.logtags.now derived.now.starts.now derived.now.sizes }
     requires maps_len { length derived.now.maps.now ≡ 6 }
     requires legible { Legible image.words.now image.tags.now 1024 at end }
     requires stacks { (Stacks stacks.now derived.now.sizes) × (a ≤ b) × (b ≤ 16384) × (b - a ≡ end - at) }
-    ensures { Apart at end (alike (between (row stacks.now 1) (row stacks.now 0) a b) (carried_by (went_of image.entry.words.now image.entry.n derived.now.log.now derived.now.logtags.now derived.now.starts.now derived.now.maps.now derived.now.sizes exprmap.now) image.entry.tags.now image.entry.words.now at end)) result }
+    ensures { MatchOption result (true ≡ alike (between (row stacks.now 1) (row stacks.now 0) a b) (carried_by (went_of image.entry.words.now image.entry.n derived.now.log.now derived.now.logtags.now derived.now.starts.now derived.now.maps.now derived.now.sizes exprmap.now) image.entry.tags.now image.entry.words.now at end)) (λ p. (at ≤ p) × (p < end) × (false ≡ alike (between (row stacks.now 1) (row stacks.now 0) a b) (carried_by (went_of image.entry.words.now image.entry.n derived.now.log.now derived.now.logtags.now derived.now.starts.now derived.now.maps.now derived.now.sizes exprmap.now) image.entry.tags.now image.entry.words.now at end))) }
 {
     for j in at..end {
         let q = a + (j - at);
         let s = image.tags[j];
         let y = carried(image, derived, exprmap, s, image.words[j]);
         if !alike_cell(stacks[CLASSES][q], stacks[WORDS][q], s, y) {
-            return j;
+            return Some(j);
         }
     }
-    end
+    None
 }
 
 // Where expression k of those on the stack ends.
@@ -243,29 +230,24 @@ fn next_candidate(
     s: u8,
     y: u32,
     k: usize,
-) -> usize
-    requires { (e1 + made ≤ 16384) × (i ≤ 16384) × (k ≤ made) }
-    ensures { Hops stacks.now e1 made i s y k result }
+) -> Option<usize>
+    requires { (e1 + made ≤ 16384) × (i ≤ 16384) × (k < made) }
+    ensures { MatchOption result (Hops stacks.now e1 made i s y k made) (λ j. (j < made) × Hops stacks.now e1 made i s y k j) }
 {
-    if s == SPAN {
-        return k;
-    }
-    if s == UPTO {
-        return k;
+    if s == SPAN || s == UPTO {
+        return Some(k);
     }
     for h in k..made {
         let q = stacks[SEATS][e1 + h] as usize + i;
-        if q < 16384 {
-            if stacks[WORDS][q] == y {
-                return h;
-            }
+        if q < 16384 && stacks[WORDS][q] == y {
+            return Some(h);
         }
     }
-    made
+    None
 }
 
-// The first expression that equals, ignoring spans, what the source's words become; or how many there are. Most of the others differ in one word: the last, or
-// the one in which another expression differed.
+// The first expression that equals, ignoring spans, what the source's words become. Most of the others differ in one word: the last, or the one in which another
+// expression differed.
 fn find_equal(
     image: Image,
     derived: &Derived,
@@ -274,35 +256,33 @@ fn find_equal(
     e1: usize,
     at: usize,
     end: usize,
-) -> usize
+) -> Option<usize>
     requires ground { Ground image.words.now image.tags.now target_bytes image.n }
     requires bearing { Bearing derived.now.log.now derived.now.logtags.now derived.now.starts.now derived.now.sizes }
     requires maps_len { length derived.now.maps.now ≡ 6 }
     requires legible { Legible image.words.now image.tags.now 1024 at end }
     requires stacks { (Stacks stacks.now derived.now.sizes) × (Rising (seats_of stacks.now e1 derived.now.sizes) e1 derived.now.sizes.exprtop) × (length (seats_of stacks.now e1 derived.now.sizes) ≡ derived.now.sizes.made) × (at < end) }
-    ensures { result ≡ seat_of (made_of stacks.now e1 derived.now.sizes) (carried_by (went_of image.entry.words.now image.entry.n derived.now.log.now derived.now.logtags.now derived.now.starts.now derived.now.maps.now derived.now.sizes exprmap.now) image.entry.tags.now image.entry.words.now at end) }
+    ensures { MatchOption result (derived.now.sizes.made ≡ seat_of (made_of stacks.now e1 derived.now.sizes) (carried_by (went_of image.entry.words.now image.entry.n derived.now.log.now derived.now.logtags.now derived.now.starts.now derived.now.maps.now derived.now.sizes exprmap.now) image.entry.tags.now image.entry.words.now at end)) (λ j. (j < derived.now.sizes.made) × (j ≡ seat_of (made_of stacks.now e1 derived.now.sizes) (carried_by (went_of image.entry.words.now image.entry.n derived.now.log.now derived.now.logtags.now derived.now.starts.now derived.now.maps.now derived.now.sizes exprmap.now) image.entry.tags.now image.entry.words.now at end))) }
 {
     let made = derived.sizes.made as usize;
     let mut p = end - 1;
     let mut y = carried(image, derived, exprmap, image.tags[p], image.words[p]);
     let mut k = 0;
+    // No `for`: each turn goes on after the next candidate, which depends on what the last one differed in.
     while k < made {
-        let j = next_candidate(stacks, e1, made, p - at, image.tags[p], y, k);
-        if j == made {
-            return made;
-        }
+        let j = next_candidate(stacks, e1, made, p - at, image.tags[p], y, k)?;
         k = j + 1;
         let a = stacks[SEATS][e1 + j] as usize;
         let b = expr_end(stacks, derived.sizes, e1, j);
         if b - a == end - at {
-            p = first_difference(image, derived, exprmap, stacks, at, end, a, b);
-            if p == end {
-                return j;
-            }
+            let Some(d) = first_difference(image, derived, exprmap, stacks, at, end, a, b) else {
+                return Some(j);
+            };
+            p = d;
             y = carried(image, derived, exprmap, image.tags[p], image.words[p]);
         }
     }
-    made
+    None
 }
 
 // Maps expression e to an equal one on the stack, or appends it.
@@ -327,8 +307,7 @@ pub fn merge(
 {
     let at = places[e] as usize;
     let end = places[e + 1] as usize;
-    let j = find_equal(image, derived, exprmap, stacks, e1, at, end);
-    if j < derived.sizes.made as usize {
+    if let Some(j) = find_equal(image, derived, exprmap, stacks, e1, at, end) {
         exprmap[e] = (j + 1) as u16;
         return derived.sizes;
     }

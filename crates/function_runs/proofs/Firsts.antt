@@ -1,16 +1,13 @@
--- The word after a span's start, which says whether the span is undefined; and which statements are atomic.
+-- The word after a span's start, which says whether the span is undefined.
 use mathlib.Core.Path.{◌≡◌}
-use mathlib.Core.Bool.{true}
 use mathlib.Core.List.{List}
-use Prim.Native.Nat.{ℕ, suc, ◌+◌, ◌-◌, ◌≤◌, ◌<◌}
+use Prim.Native.Nat.{ℕ, suc, ◌+◌, ◌≤◌, ◌<◌}
 use native.Mathlib.Numerals.{add-one}
 use native.Mathlib.Omega.{arith}
 use lib.Dec.{eqb}
 use lib.ListN.{length, get_or}
-use borrow.Author.Tests.{ne_eqb}
 use Rattle.model.specs.Between.{between}
 use Rattle.model.specs.References.{first_word}
-use Rattle.theory_passes.specs.Pass.{atomic_kind}
 use Rattle.theory_image.specs.Betweens.{between_none, between_next}
 
 -- ---- the word after
@@ -24,12 +21,3 @@ first-none tags words i end h = rw (between_none tags words (suc i) end (omega a
 
 pub zero_first : (w next : ℕ) → 0 ≡ next → eqb w 0 ≡ eqb (w + next) 0
 zero_first w next z = let y : w + next ≡ w = omega arith in rw y
-
--- ---- atomic statements
-pub atomic_13 : (k : ℕ) → k ≡ 13 → true ≡ atomic_kind k
-unfolding atomic_kind
-atomic_13 k e = rw e
-
-pub atomic_16 : (k : ℕ) → (k ≡ 13 → ⊥) → eqb k 16 ≡ atomic_kind k
-unfolding atomic_kind
-atomic_16 k ne = rw (ne_eqb k 13 ne)

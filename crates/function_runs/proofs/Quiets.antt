@@ -14,7 +14,7 @@ use Rattle.theory_records.specs.RecordLaws.{All}
 use Rattle.theory_passes.specs.Pass.{atomic_kind}
 use Rattle.derive_state.specs.Refers.{target_of}
 use Rattle.derive_state.specs.Source.{refers_to, number_of}
-use Rattle.derive_state.specs.Held.{cell, put}
+use Rattle.derive_state.specs.Held.{put}
 use Rattle.function_references.specs.Fits.{FitN, Legible}
 use Rattle.function_outside.proofs.Cells.{fit_own, fit-table}
 use Rattle.function_outside.proofs.Passing.{legible_next, legible_here}
@@ -52,12 +52,6 @@ pub quiet-nothing : (maps : List (List ℕ)) (exprmap : List ℕ) (s w : ℕ) �
 quiet-nothing maps exprmap s w e nf na = let r = refers_none (target s) w e in record { callee = λ q. omega arith; emit = nf; atomic = na; outside = λ l z. absurd (omega arith); inside = λ l z. absurd (omega arith) }
 
 module _ (maps : List (List ℕ)) (exprmap : List ℕ) (s w : ℕ) (some : target_of (target s) ≡ 6 → ⊥) (callee : target_of (target s) ≡ 7 → ⊥) (t h : ℕ) (ht : t ≡ refers_to (target s) w) (hh : h ≡ number_of (target s) w) where
-  pub quiet_none : s < EXPR → 5 < t → Quiet maps exprmap s w
-  quiet_none l g = record { callee = callee; emit = λ e. omega arith; atomic = λ e. absurd (omega arith); outside = λ z y. absurd (omega arith); inside = λ z. absurd (omega arith) }
-
-  pub quiet_record : s < EXPR → (cell maps t h ≡ 0 → ⊥) → Quiet maps exprmap s w
-  quiet_record l ne = record { callee = callee; emit = λ e. omega arith; atomic = λ e. absurd (omega arith); outside = λ z y. rw (ht, hh) at ne; inside = λ z. absurd (omega arith) }
-
   pub quiet_own : EXPR ≤ s → t ≡ 5 → (get_or exprmap h 0 ≡ 0 → ⊥) → Quiet maps exprmap s w
   quiet_own l z ne = record { callee = callee; emit = λ e. some (emit_none s e); atomic = λ e. absurd (some (kind-none s e)); outside = λ x. absurd (omega arith); inside = λ x y. rw hh at ne }
 
@@ -79,9 +73,6 @@ pub record Onto (words tags : List ℕ) (maps : List (List ℕ)) (exprmap : List
   pub on : (d : ℕ) → ran words tags W made o end (count + d) at bodytop u₀ stacks₀ ≡ ran words tags W made o end d i p u stacks
   pub flags : (d : ℕ) → flagged words tags end (count + d) at u₀ ≡ flagged words tags end d i u
 
-pub onto_begin : {words tags : List ℕ} {maps : List (List ℕ)} {exprmap : List ℕ} {W : Place → ℕ → ℕ} {made o at end bodytop : ℕ} {u : Bool} {stacks : List (List ℕ)} → Legible words tags 1024 at end → bodytop ≤ 16384 → Onto words tags maps exprmap W made o at end bodytop u stacks stacks at bodytop u
-onto_begin L l = record { left = L; count = 0; reach = omega arith; place = omega arith; room = l; quiet = λ j a b. absurd (omega arith); on = λ d. let z : 0 + d ≡ d = omega arith in rw z; flags = λ d. let z : 0 + d ≡ d = omega arith in rw z }
-
 module _ {words tags : List ℕ} {maps : List (List ℕ)} {exprmap : List ℕ} {W : Place → ℕ → ℕ} {made o at end bodytop : ℕ} {u₀ : Bool} {stacks₀ stacks : List (List ℕ)} {i p : ℕ} {u : Bool} (inv : Onto words tags maps exprmap W made o at end bodytop u₀ stacks₀ stacks i p u) where
   pub onto_done : Ran words tags maps exprmap W made o at end bodytop u₀ stacks₀ i u stacks
   unfolding ran flagged
@@ -91,10 +82,10 @@ module _ {words tags : List ℕ} {maps : List (List ℕ)} {exprmap : List ℕ} {
       let b = inv.place in
       record { count = inv.count; reach = inv.reach; high = inv.left.stretch.rising; room = omega arith; quiet = inv.quiet; is = sym (rw z at (inv.on 0)); flag = sym (rw z at (inv.flags 0)) }
 
-  module _ (less : i < end) where
-    pub onto_in : i < 16384
-    onto_in = let a = inv.left.stretch.small in omega arith
+  pub onto_all : end ≤ i → Ran words tags maps exprmap W made o at end bodytop u₀ stacks₀ end u stacks
+  onto_all h = let l = inv.left.stretch.rising in let e : i ≡ end = omega arith in rw e at onto_done
 
+  module _ (less : i < end) where
     pub onto_fits : All (FitN words 1024) (ref_of (target (get_or tags i 0)) (get_or words i 0) [])
     onto_fits = legible_here inv.left less
 

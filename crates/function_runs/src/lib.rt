@@ -35,13 +35,11 @@ pub fn span_undefined(image: Image, i: usize, end: usize, u: bool) -> bool
 }
 
 // Whether a statement of the kind k is atomic.
+#[tactic(auto, unfolding(theory_passes::specs::Pass::atomic_kind))]
 pub fn atomic(k: u32) -> bool
     ensures { result ≡ atomic_kind k }
 {
-    if k == base_kinds::ATOMIC {
-        return true;
-    }
-    k == base_kinds::IMAGE_ATOMIC
+    matches!(k, base_kinds::ATOMIC | base_kinds::IMAGE_ATOMIC)
 }
 
 // Whether the word w of the class s needs no import: it names no function, starts no Emit and no atomic statement, and what it refers to is mapped.
@@ -49,32 +47,19 @@ fn is_mapped_word(maps: &Maps, exprmap: &ExprMap, s: u8, w: u32) -> bool
     requires w_bound { (s < EXPR' → refers_to (target s) w < 6 → number_of (target s) w < 512) × (EXPR' ≤ s → refers_to (target s) w ≡ 5 → number_of (target s) w < 1024) }
     ensures { result ≡ true → Quiet maps.now exprmap.now s w }
 {
-    let u = target_of(s);
-    if u == NOTHING {
-        if s == FROM {
-            return false;
+    match target_of(s) {
+        NOTHING => s != FROM && (s != STMT_KIND || !atomic(w)),
+        FUNCTION => false,
+        _ => {
+            let r = refers_to(s, w);
+            let h = r.number as usize;
+            if s < EXPR {
+                EXPRESSIONS < r.table || maps[r.table][h] != 0
+            } else {
+                r.table != EXPRESSIONS || exprmap[h] != 0
+            }
         }
-        if s == STMT_KIND {
-            return !atomic(w);
-        }
-        return true;
     }
-    if u == FUNCTION {
-        return false;
-    }
-    let r = refers_to(s, w);
-    let t = r.table;
-    let h = r.number as usize;
-    if s < EXPR {
-        if EXPRESSIONS < t {
-            return true;
-        }
-        return maps[t][h] != 0;
-    }
-    if t == EXPRESSIONS {
-        return exprmap[h] != 0;
-    }
-    true
 }
 
 // What such a word becomes, where so many expressions are made: that is the end of an Emit's range; any other goes through the maps, with its span moved.
@@ -114,33 +99,22 @@ pub fn copy_mapped_run(
     requires legible { (Legible image.words.now image.tags.now 1024 at end) × (bodytop ≤ 16384) × (made ≤ 16384) }
     ensures { Ran image.entry.words.now image.entry.tags.now maps.now exprmap.now (went_by maps.now exprmap.now) made offset at end bodytop undefined stacks.old result.at result.undefined stacks.new }
 {
-    let mut i = at;
-    let mut p = bodytop;
     let mut u = undefined;
-    while i < end {
+    for i in at..end {
+        let p = bodytop + (i - at);
         let s = image.tags[i];
         let w = image.words[i];
-        if p == 16384 {
+        if p == 16384 || !is_mapped_word(maps, exprmap, s, w) {
             return Reach {
                 at: i,
                 undefined: u,
             };
         }
-        if !is_mapped_word(maps, exprmap, s, w) {
-            return Reach {
-                at: i,
-                undefined: u,
-            };
-        }
-        let j = i;
-        let q = p;
-        i += 1;
-        p += 1;
-        u = span_undefined(image, j, end, u);
-        stacks[BODY][q] = carry(maps, exprmap, made, offset, s, w, u);
+        u = span_undefined(image, i, end, u);
+        stacks[BODY][p] = carry(maps, exprmap, made, offset, s, w, u);
     }
     Reach {
-        at: i,
+        at: end,
         undefined: u,
     }
 }

@@ -1,31 +1,29 @@
--- `function_builder::by_maps` meets its contract. Each return is one kind of class.
+-- `function_builder::by_maps` meets its contract. Each arm is one kind of class.
 use mathlib.Core.Path.{refl, sym, ◌∙◌}
-use Rattle.function_builder.proofs.Carries.{carries_nothing, carries_small, carries_row, carries_in, carries_own, carries_none, carries_opt_in, carries_opt, carries_copied}
+use Rattle.function_builder.proofs.Carries.{kind_few, carries_small, carries_row, carries_in, carries_own, carries_none, carries_opt_in, carries_opt, carries_copied}
+use borrow.Author.Rules.{rules}
 use Rattle.function_builder.proofs.by_maps.Goals as goal
 
-pub returns-then-u-eq-NOTHING : goal.returns-then-u-eq-NOTHING
-returns-then-u-eq-NOTHING c = let a = c.args in let u = c.target_of-u in carries_nothing c.requires.by_index.0 a.maps.now a.exprmap.now a.s a.w u.result c.target_of-u.ensures c.requires.by_index.1 c.if-u-eq-NOTHING.true
-
 pub carried-requires : goal.carried-requires
-carried-requires c = let a = c.args in let u = c.target_of-u in record { all = carries_small c.requires.by_index.0 a.maps.now a.exprmap.now a.s a.w u.result c.target_of-u.ensures c.requires.by_index.1 (λ q. c.requires.fact (sym c.target_of-u.ensures.0 ∙ q)) c.if-s-lt-EXPR.true; maps_len = c.requires.maps_len }
+carried-requires c = let a = c.args in record { all = carries_small c.requires.by_index.0 a.maps.now a.exprmap.now a.s a.w _ (refl, kind_few a.s) c.requires.by_index.1 c.requires.fact c.if-s-lt-EXPR.true; maps_len = c.requires.maps_len }
 
 pub returns-then-s-lt-EXPR : goal.returns-then-s-lt-EXPR
-returns-then-s-lt-EXPR c = let a = c.args in let u = c.target_of-u in carries_row c.requires.by_index.0 a.maps.now a.exprmap.now a.s a.w u.result c.target_of-u.ensures c.requires.by_index.1 (λ q. c.requires.fact (sym c.target_of-u.ensures.0 ∙ q)) c.if-s-lt-EXPR.true _ c.carried.ensures
+returns-then-s-lt-EXPR c = let a = c.args in carries_row c.requires.by_index.0 a.maps.now a.exprmap.now a.s a.w _ (refl, kind_few a.s) c.requires.by_index.1 c.requires.fact c.if-s-lt-EXPR.true _ c.carried.ensures
 
 pub bounds-exprmap-w : goal.bounds-exprmap-w
-bounds-exprmap-w c = let a = c.args in let u = c.target_of-u in carries_in c.requires.by_index.0 a.maps.now a.exprmap.now a.s a.w u.result c.target_of-u.ensures c.requires.by_index.1 (λ q. c.requires.fact (sym c.target_of-u.ensures.0 ∙ q)) c.if-s-lt-EXPR.false c.if-u-eq-OWN.true _ refl
+bounds-exprmap-w c = let a = c.args in let u = c.target_of in carries_in c.requires.by_index.0 a.maps.now a.exprmap.now a.s a.w u.result u.ensures c.requires.by_index.1 (λ q. c.requires.fact (sym u.ensures.0 ∙ q)) c.if-s-lt-EXPR.false c.in-5.is _ refl
 
-pub returns-then-u-eq-OWN : goal.returns-then-u-eq-OWN
-returns-then-u-eq-OWN c = let a = c.args in let u = c.target_of-u in carries_own c.requires.by_index.0 a.maps.now a.exprmap.now a.s a.w u.result c.target_of-u.ensures c.requires.by_index.1 (λ q. c.requires.fact (sym c.target_of-u.ensures.0 ∙ q)) c.if-s-lt-EXPR.false c.if-u-eq-OWN.true _ refl _ c.number_of.ensures
+pub returns-in-5 : goal.returns-in-5
+returns-in-5 c = let a = c.args in let u = c.target_of in carries_own c.requires.by_index.0 a.maps.now a.exprmap.now a.s a.w u.result u.ensures c.requires.by_index.1 (λ q. c.requires.fact (sym u.ensures.0 ∙ q)) c.if-s-lt-EXPR.false c.in-5.is _ refl _ c.number_of.ensures
 
-pub returns-then-w-eq0 : goal.returns-then-w-eq0
-returns-then-w-eq0 c = let a = c.args in let u = c.target_of-u in carries_none c.requires.by_index.0 a.maps.now a.exprmap.now a.s a.w u.result c.target_of-u.ensures c.requires.by_index.1 (λ q. c.requires.fact (sym c.target_of-u.ensures.0 ∙ q)) c.if-s-lt-EXPR.false c.if-u-eq-OPT_OWN.true c.if-w-eq0.true
+pub returns-in-13 : goal.returns-in-13
+returns-in-13 c = let a = c.args in let u = c.target_of in carries_none c.requires.by_index.0 a.maps.now a.exprmap.now a.s a.w u.result u.ensures c.requires.by_index.1 (λ q. c.requires.fact (sym u.ensures.0 ∙ q)) c.if-s-lt-EXPR.false c.in-13.is c.if-w-eq0.true
 
-pub bounds-exprmap-w-then-u-eq-OPT_OWN : goal.bounds-exprmap-w-then-u-eq-OPT_OWN
-bounds-exprmap-w-then-u-eq-OPT_OWN c = let a = c.args in let u = c.target_of-u in carries_opt_in c.requires.by_index.0 a.maps.now a.exprmap.now a.s a.w u.result c.target_of-u.ensures c.requires.by_index.1 (λ q. c.requires.fact (sym c.target_of-u.ensures.0 ∙ q)) c.if-s-lt-EXPR.false c.if-w-eq0.false _ refl c.if-u-eq-OPT_OWN.true
+pub bounds-exprmap-w-in-13-2 : goal.bounds-exprmap-w-in-13-2
+bounds-exprmap-w-in-13-2 c = let a = c.args in let u = c.target_of in carries_opt_in c.requires.by_index.0 a.maps.now a.exprmap.now a.s a.w u.result u.ensures c.requires.by_index.1 (λ q. c.requires.fact (sym u.ensures.0 ∙ q)) c.if-s-lt-EXPR.false c.if-w-eq0.false _ refl c.in-13.is
 
-pub returns-then-u-eq-OPT_OWN : goal.returns-then-u-eq-OPT_OWN
-returns-then-u-eq-OPT_OWN c = let a = c.args in let u = c.target_of-u in carries_opt c.requires.by_index.0 a.maps.now a.exprmap.now a.s a.w u.result c.target_of-u.ensures c.requires.by_index.1 (λ q. c.requires.fact (sym c.target_of-u.ensures.0 ∙ q)) c.if-s-lt-EXPR.false c.if-w-eq0.false _ refl c.if-u-eq-OPT_OWN.true
+pub returns-in-13-2 : goal.returns-in-13-2
+returns-in-13-2 c = let a = c.args in let u = c.target_of in carries_opt c.requires.by_index.0 a.maps.now a.exprmap.now a.s a.w u.result u.ensures c.requires.by_index.1 (λ q. c.requires.fact (sym u.ensures.0 ∙ q)) c.if-s-lt-EXPR.false c.if-w-eq0.false _ refl c.in-13.is
 
-pub returns : goal.returns
-returns c = let a = c.args in let u = c.target_of-u in carries_copied c.requires.by_index.0 a.maps.now a.exprmap.now a.s a.w u.result c.target_of-u.ensures c.requires.by_index.1 (λ q. c.requires.fact (sym c.target_of-u.ensures.0 ∙ q)) c.if-s-lt-EXPR.false c.if-u-eq-OWN.false c.if-u-eq-OPT_OWN.false
+pub returns-in_default : goal.returns-in_default
+returns-in_default c = let a = c.args in let u = c.target_of in carries_copied c.requires.by_index.0 a.maps.now a.exprmap.now a.s a.w u.result u.ensures c.requires.by_index.1 (λ q. c.requires.fact (sym u.ensures.0 ∙ q)) c.if-s-lt-EXPR.false (search rules) (search rules)

@@ -41,10 +41,10 @@ pub bounds-stacks-q-in-loop-j : goal.bounds-stacks-q-in-loop-j
 bounds-stacks-q-in-loop-j c = let a = c.args in let L = c.requires.legible in let q = c.requires.stacks in let l = c.loop-j in compares_in (FitN a.image.words.now 1024) a.image.words.now a.image.tags.now (get_or a.stacks.now 0 []) (get_or a.stacks.now 1 []) (went_of a.image.words.now a.image.n a.derived.now.log.now a.derived.now.logtags.now a.derived.now.starts.now a.derived.now.maps.now a.derived.now.sizes a.exprmap.now) a.at a.end a.a a.b L.stretch L.fits q.1 q.2 (q.0.rows 0 (omega arith)) (q.0.rows 1 (omega arith)) l.j (a.a + (l.j - a.at)) l.invariant.0 c.loop-j-test.true
 
 pub returns-then-not-alike_cell : goal.returns-then-not-alike_cell
-returns-then-not-alike_cell c = let a = c.args in let L = c.requires.legible in let q = c.requires.stacks in let l = c.loop-j in let h = c.loop-j-test.true in record { low = l.invariant.1; high = l.invariant.0.within; all = λ e. absurd (omega arith); not = λ _. compares_not (FitN a.image.words.now 1024) a.image.words.now a.image.tags.now (get_or a.stacks.now 0 []) (get_or a.stacks.now 1 []) (went_of a.image.words.now a.image.n a.derived.now.log.now a.derived.now.logtags.now a.derived.now.starts.now a.derived.now.maps.now a.derived.now.sizes a.exprmap.now) a.at a.end a.a a.b L.stretch L.fits q.1 q.2 (q.0.rows 0 (omega arith)) (q.0.rows 1 (omega arith)) l.j (a.a + (l.j - a.at)) l.invariant.0 c.loop-j-test.true _ c.carried-y.ensures _ c.alike_cell.ensures (not-true _ (ap not c.if-not-alike_cell.true)) }
+returns-then-not-alike_cell c = let a = c.args in let L = c.requires.legible in let q = c.requires.stacks in let l = c.loop-j in let h = c.loop-j-test.true in (l.invariant.1, h, compares_not (FitN a.image.words.now 1024) a.image.words.now a.image.tags.now (get_or a.stacks.now 0 []) (get_or a.stacks.now 1 []) (went_of a.image.words.now a.image.n a.derived.now.log.now a.derived.now.logtags.now a.derived.now.starts.now a.derived.now.maps.now a.derived.now.sizes a.exprmap.now) a.at a.end a.a a.b L.stretch L.fits q.1 q.2 (q.0.rows 0 (omega arith)) (q.0.rows 1 (omega arith)) l.j (a.a + (l.j - a.at)) l.invariant.0 c.loop-j-test.true _ c.carried-y.ensures _ c.alike_cell.ensures (not-true _ (ap not c.if-not-alike_cell.true)))
 
 pub loop-j-preserved : goal.loop-j-preserved
 loop-j-preserved c = let a = c.args in let L = c.requires.legible in let q = c.requires.stacks in let l = c.loop-j in let h = l.invariant.1 in let z : a.a + (l.j + 1 - a.at) ≡ (a.a + (l.j - a.at)) + 1 = omega (arith, h) in (rw z (compares_next (FitN a.image.words.now 1024) a.image.words.now a.image.tags.now (get_or a.stacks.now 0 []) (get_or a.stacks.now 1 []) (went_of a.image.words.now a.image.n a.derived.now.log.now a.derived.now.logtags.now a.derived.now.starts.now a.derived.now.maps.now a.derived.now.sizes a.exprmap.now) a.at a.end a.a a.b L.stretch L.fits q.1 q.2 (q.0.rows 0 (omega arith)) (q.0.rows 1 (omega arith)) l.j (a.a + (l.j - a.at)) l.invariant.0 c.loop-j-test.true _ c.carried-y.ensures _ c.alike_cell.ensures (not-false _ (ap not c.if-not-alike_cell.false))), omega arith)
 
 pub returns : goal.returns
-returns c = let a = c.args in let L = c.requires.legible in let q = c.requires.stacks in let l = c.loop-j in record { low = L.stretch.rising; high = le_refl _; all = λ _. compares_done (FitN a.image.words.now 1024) a.image.words.now a.image.tags.now (get_or a.stacks.now 0 []) (get_or a.stacks.now 1 []) (went_of a.image.words.now a.image.n a.derived.now.log.now a.derived.now.logtags.now a.derived.now.starts.now a.derived.now.maps.now a.derived.now.sizes a.exprmap.now) a.at a.end a.a a.b L.stretch L.fits q.1 q.2 (q.0.rows 0 (omega arith)) (q.0.rows 1 (omega arith)) l.j (a.a + (l.j - a.at)) l.invariant.0 c.loop-j-test.false; not = λ ne. absurd (ne refl) }
+returns c = let a = c.args in let L = c.requires.legible in let q = c.requires.stacks in let l = c.loop-j in compares_done (FitN a.image.words.now 1024) a.image.words.now a.image.tags.now (get_or a.stacks.now 0 []) (get_or a.stacks.now 1 []) (went_of a.image.words.now a.image.n a.derived.now.log.now a.derived.now.logtags.now a.derived.now.starts.now a.derived.now.maps.now a.derived.now.sizes a.exprmap.now) a.at a.end a.a a.b L.stretch L.fits q.1 q.2 (q.0.rows 0 (omega arith)) (q.0.rows 1 (omega arith)) l.j (a.a + (l.j - a.at)) l.invariant.0 c.loop-j-test.false

@@ -1,11 +1,8 @@
 -- `copy_mapped_run` meets its contract: at each turn one word more is written, until one imports something or there is no room.
-use Prim.Native.Nat.{◌-◌}
+use Prim.Native.Nat.{◌+◌, ◌-◌}
 use Rattle.function_builder.specs.Stacks.{went_by}
 use Rattle.function_runs.proofs.Quiets.{Onto}
 use Rattle.function_runs.proofs.copy_mapped_run.Given as goal
 
 abbrev pub invariant-loop-i : goal.invariant-loop-i
-invariant-loop-i l = Onto l.image.words.now l.image.tags.now l.maps l.exprmap (went_by l.maps l.exprmap) l.made l.offset l.at l.end l.bodytop l.undefined l.initial.stacks l.stacks l.i l.p l.u
-
-abbrev pub decreases-loop-i : goal.decreases-loop-i
-decreases-loop-i l = l.end - l.i
+invariant-loop-i l = Onto l.image.words.now l.image.tags.now l.maps l.exprmap (went_by l.maps l.exprmap) l.made l.offset l.at l.end l.bodytop l.undefined l.initial.stacks l.stacks l.i (l.bodytop + (l.i - l.at)) l.u

@@ -1,4 +1,3 @@
-use mathlib.Core.Path.{refl}
 -- `span_undefined` meets its contract: a span is undefined where its start and the word after it are 0.
 use mathlib.Core.Path.{◌∙◌}
 use lib.ListN.{get_or}
