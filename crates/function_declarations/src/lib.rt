@@ -113,6 +113,7 @@ fn import_initialiser(
 }
 
 // Imports what word i of declarations refers to: an expression of an initialiser, or a record of a table.
+// It stands beside function_passes::import_body_word, which appends the expression and does not merge it, for the reason given there.
 fn import_declaration_word(
     image: Image,
     places: &Places,
@@ -194,6 +195,7 @@ pub fn declare(
     let mut e = ends;
     let mut i = at;
     let mut u = false;
+    // no counted loop: a turn passes a run of words, as long as copy_mapped_run finds it, and one word more
     while i < end {
         let r = copy_mapped_run(
             image,

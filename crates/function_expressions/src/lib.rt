@@ -118,10 +118,7 @@ fn is_unmapped_standing(words: &Words, places: &Places, exprmap: &ExprMap, e: us
     ensures e_value { result ≡ true → (get_or exprmap.now e 0 ≡ 0) × (standing_kind (get_or words.now (get_or places.now e 0) 0) ≡ true) }
     ensures e_value_2 { result ≡ false → get_or exprmap.now e 0 ≡ 0 → standing_kind (get_or words.now (get_or places.now e 0) 0) ≡ false }
 {
-    if exprmap[e] != 0 {
-        return false;
-    }
-    stands(words[places[e] as usize])
+    exprmap[e] == 0 && stands(words[places[e] as usize])
 }
 
 // What an Emit's first pass imports of expression e, where it is not mapped.

@@ -79,10 +79,8 @@ pub fn import_names(
     ensures { ImportNamesEnsures image.entry.words.now image.entry.n offset b log.old logtags.old starts.old maps.old buckets.old stacks.old ends result log.new logtags.new starts.new maps.new buckets.new stacks.new }
 {
     let mut e = ends;
-    let mut i = b;
-    while i < ends.bodytop as usize {
+    for i in (b..ends.bodytop as usize).step_by(2) {
         let j = i + 1;
-        i += 2;
         let w = stacks[BODY][j];
         if w != 0 {
             e = import(

@@ -1,3 +1,4 @@
 pub mod Drawn
 pub mod Ranges
 pub mod Appending
+pub mod Comparing

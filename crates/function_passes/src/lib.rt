@@ -5,7 +5,6 @@
 
 ghost use Rattle.std.specs.Prelude.{◌≡◌, false, List, [], ◌∷◌, ℕ, suc, ◌≤◌, ◌<◌, ◌+◌, length, get_or};
 ghost use Rattle.model.specs.Between.{between, Stretch};
-ghost use Rattle.model.specs.Operands.{optional};
 ghost use Rattle.model.specs.References.{target, ref_of};
 ghost use Rattle.model.specs.Scope.{in_range};
 ghost use Rattle.model.specs.Bodies.{Builder, compares_of, each_e};
@@ -19,6 +18,7 @@ ghost use Rattle.function_references.specs.Cuts.{Expressions};
 ghost use Rattle.function_builder.specs.Stacks.{Under};
 ghost use Rattle.function_builder.specs.Makes.{Makes, Lays};
 ghost use Rattle.function_words.specs.Runs.{needs, glances, Bodied, Drawn, Runs};
+ghost use Rattle.function_passes.specs.Compared.{compared};
 ghost use Rattle.derive_state.specs.Refers.{target_bytes};
 
 use base_classes::{ATOMIC, EXPR, FROM, OPT_EXPR, STMT_KIND, TO};
@@ -34,6 +34,8 @@ use function_runs::atomic;
 use function_words::put_word;
 
 // Imports what word i of a body refers to: an expression of the function, or a record of a table.
+// import_declaration_word does so of declarations, and merges the expression. One function for both would be no plainer: beside its fourteen parameters it would
+// take another that tells them apart, and its contract would say both.
 fn import_body_word(
     image: Image,
     places: &Places,
@@ -231,24 +233,21 @@ fn emit(
     )
 }
 
-// What the first code of an atomic function, from i on, compares: the number of an expression plus 1, or 0.
-fn compare_operand(image: Image, i: usize, end: usize) -> u32
+// The expression that the first code of an atomic function, from i on, compares, if it compares one.
+fn compare_operand(image: Image, i: usize, end: usize) -> Option<u32>
     requires { Stretch image.words.now image.tags.now i end }
-    ensures { optional result [] ≡ compares_of (between image.entry.tags.now image.entry.words.now (i) end) }
+    ensures { compared result ≡ compares_of (between image.entry.tags.now image.entry.words.now (i) end) }
 {
     for j in i..end {
         if image.tags[j] == ATOMIC {
             let k = j + 1;
-            if end <= k {
-                return 0;
+            if k < end && image.tags[k] == OPT_EXPR {
+                return image.words[k].checked_sub(1);
             }
-            if image.tags[k] == OPT_EXPR {
-                return image.words[k];
-            }
-            return 0;
+            return None;
         }
     }
-    0
+    None
 }
 
 // What an atomic statement compares, where its kind is word i.
@@ -280,25 +279,12 @@ fn import_compare(
     if !atomic(image.words[i]) {
         return ends;
     }
-    let x = compare_operand(image, i + 1, end);
-    if x == 0 {
+    let Some(x) = compare_operand(image, i + 1, end) else {
         return ends;
-    }
+    };
     import_operand(
-        image,
-        places,
-        log,
-        logtags,
-        starts,
-        maps,
-        buckets,
-        exprmap,
-        stacks,
-        ends,
-        offset,
-        e1,
-        k,
-        (x - 1) as usize,
+        image, places, log, logtags, starts, maps, buckets, exprmap, stacks, ends, offset, e1, k,
+        x as usize,
     )
 }
 
@@ -329,49 +315,50 @@ pub fn import_word(
     requires under { Under k exprmap.old stacks.old e1 ends }
     ensures { Runs image.entry.words.now k (passed offset (mod_of image.entry.words.now image.entry.n) still (needs offset image.entry.words.now image.entry.tags.now image.entry.n places.now k) (glances offset image.entry.words.now image.entry.tags.now image.entry.n places.now k) (get_or image.entry.tags.now i 0, get_or image.entry.words.now i 0) (between image.entry.tags.now image.entry.words.now (suc i) end)) (λ (m : Builder). word_of offset (mod_of image.entry.words.now image.entry.n) still (needs offset image.entry.words.now image.entry.tags.now image.entry.n places.now k) (glances offset image.entry.words.now image.entry.tags.now image.entry.n places.now k) (get_or image.entry.tags.now i 0, get_or image.entry.words.now i 0) (between image.entry.tags.now image.entry.words.now (suc i) end) u m ∷ []) log.old logtags.old starts.old maps.old buckets.old exprmap.old stacks.old e1 ends result log.new logtags.new starts.new maps.new buckets.new exprmap.new stacks.new }
 {
-    let s = image.tags[i];
-    if s == FROM {
-        let a = image.words[i] as usize;
-        let b = image.words[i + 1] as usize;
-        return emit(
-            image, places, log, logtags, starts, maps, buckets, exprmap, stacks, ends, offset, e1,
-            k, a, b,
-        );
-    }
-    if s == TO {
-        let to = ends.made as u32;
-        return push(stacks, ends, to);
-    }
-    if s == STMT_KIND {
-        let got = import_compare(
-            image, places, log, logtags, starts, maps, buckets, exprmap, stacks, ends, offset, e1,
-            k, i, end,
-        );
-        if got.full {
-            return got;
+    match image.tags[i] {
+        FROM => {
+            let a = image.words[i] as usize;
+            let b = image.words[i + 1] as usize;
+            emit(
+                image, places, log, logtags, starts, maps, buckets, exprmap, stacks, ends, offset,
+                e1, k, a, b,
+            )
         }
-        return push(stacks, got, image.words[i]);
+        TO => push(stacks, ends, ends.made as u32),
+        STMT_KIND => {
+            let got = import_compare(
+                image, places, log, logtags, starts, maps, buckets, exprmap, stacks, ends, offset,
+                e1, k, i, end,
+            );
+            if got.full {
+                return got;
+            }
+            push(stacks, got, image.words[i])
+        }
+        _ => {
+            let got = import_body_word(
+                image, places, log, logtags, starts, maps, buckets, exprmap, stacks, ends, offset,
+                e1, k, i,
+            );
+            if got.full {
+                return got;
+            }
+            put_word(
+                image,
+                &Derived {
+                    log,
+                    logtags,
+                    starts,
+                    maps,
+                    buckets,
+                    sizes: got,
+                },
+                exprmap,
+                stacks,
+                offset,
+                i,
+                u,
+            )
+        }
     }
-    let got = import_body_word(
-        image, places, log, logtags, starts, maps, buckets, exprmap, stacks, ends, offset, e1, k, i,
-    );
-    if got.full {
-        return got;
-    }
-    put_word(
-        image,
-        &Derived {
-            log,
-            logtags,
-            starts,
-            maps,
-            buckets,
-            sizes: got,
-        },
-        exprmap,
-        stacks,
-        offset,
-        i,
-        u,
-    )
 }

@@ -31,7 +31,7 @@ fn copy_tags(tags: &Tags, a: usize, count: usize, logtags: &mut LogTags, p: usiz
     logtags[p..p + count].copy_from_slice(&tags[a..a + count]);
 }
 
-// Copies the classes of expressions, from a on.
+// Copies the classes of expressions, from a on. By a loop, since each word becomes a byte and copy_from_slice copies what has one type.
 fn copy_classes(stacks: &StackRows, a: usize, count: usize, logtags: &mut LogTags, p: usize)
     requires count_bound { (a + count ≤ 16384) × (p + count ≤ 16384) × (length logtags.old ≡ 16384) × (length (row stacks.now 1) ≡ 16384) }
     requires by_index { (i : ℕ) → a ≤ i → i < a + count → get_or (row stacks.now 1) i 0 < 256 }
@@ -42,7 +42,8 @@ fn copy_classes(stacks: &StackRows, a: usize, count: usize, logtags: &mut LogTag
     }
 }
 
-// Writes the classes of `count` named expressions.
+// Writes the classes of `count` named expressions. By a loop, since fill writes one value, and as_chunks_mut, which would make pairs of the classes, does not say
+// what the slice ends as.
 fn name_classes(logtags: &mut LogTags, p: usize, count: usize)
     requires { (p + 2 * count ≤ 16384) × (length logtags.old ≡ 16384) }
     ensures { logtags.new ≡ sets logtags.old p (named_classes count) }

@@ -1,5 +1,4 @@
 -- `compare_operand` meets its contract: the words that are left compare what all of them do.
-use Prim.Native.Nat.{◌-◌}
 use Rattle.function_words.proofs.Words.{Comparing}
 use Rattle.function_passes.proofs.compare_operand.Given as goal
 

@@ -1,5 +1,4 @@
 -- `first_pass` meets its contract: one expression of the range at a turn.
-use Prim.Native.Nat.{◌-◌}
 use native.Mathlib.Omega.{arith}
 use Rattle.function_passes.proofs.Ranges.{range_begin, range_more, range_full, range_done, glances_grow}
 use Rattle.function_passes.proofs.first_pass.Goals as goal

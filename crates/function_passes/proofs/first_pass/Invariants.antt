@@ -1,5 +1,4 @@
 -- `first_pass` meets its contract: one expression of the range at a turn.
-use Prim.Native.Nat.{◌-◌}
 use Rattle.function_words.specs.Runs.{glances}
 use Rattle.function_passes.proofs.Ranges.{Ranging}
 use Rattle.function_passes.proofs.first_pass.Given as goal

@@ -1,30 +1,29 @@
-use mathlib.Core.Path.{refl}
 -- `import_compare` meets its contract: an atomic statement has what it compares, where it compares.
 use mathlib.Core.Path.{sym, ap, ◌∙◌}
-use mathlib.Core.List.{[]}
-use Prim.Native.Nat.{ℕ, suc}
+use Prim.Native.Nat.{suc}
+use native.Mathlib.Omega.{arith}
 use lib.ListN.{get_or}
 use borrow.Author.Tests.{not-true, not-false}
 use Rattle.model.specs.Between.{between}
-use Rattle.model.specs.Operands.{optional}
 use Rattle.theory_passes.proofs.Cases.{early-other}
 use Rattle.theory_passes.specs.Light.{still}
 use Rattle.derive_state.specs.Source.{mod_of}
 use Rattle.function_outside.proofs.Passing.{legible_next}
 use Rattle.function_words.specs.Runs.{needs as needsE, glances}
 use Rattle.function_words.proofs.Running.{makes_as, makes-idle}
-use Rattle.function_words.proofs.Words.{compared_as, compare_low, early-none, early-one}
+use Rattle.function_words.proofs.Words.{compare_low, early-none, early-one}
+use Rattle.function_passes.proofs.Comparing.{compared_none, compared_some}
 use mathlib.Core.Bool.{not}
 use Rattle.function_passes.proofs.import_compare.Goals as goal
 
 pub returns-then-not-atomic : goal.returns-then-not-atomic
 returns-then-not-atomic c = let a = c.args in makes-idle c.requires.valid_arrays c.requires.under c.requires.full_value (λ m. early-other a.offset (mod_of a.image.words.now a.image.n) still (needsE a.offset a.image.words.now a.image.tags.now a.image.n a.places.now a.k) (glances a.offset a.image.words.now a.image.tags.now a.image.n a.places.now a.k) (get_or a.image.words.now a.i 0) (between a.image.tags.now a.image.words.now (suc a.i) a.end) m (sym c.atomic.ensures ∙ not-true _ (ap not c.if-not-atomic.true)))
 
-pub returns-then-x-eq0 : goal.returns-then-x-eq0
-returns-then-x-eq0 c = let a = c.args in makes-idle c.requires.valid_arrays c.requires.under c.requires.full_value (λ m. early-none a.offset (mod_of a.image.words.now a.image.n) (needsE a.offset a.image.words.now a.image.tags.now a.image.n a.places.now a.k) (glances a.offset a.image.words.now a.image.tags.now a.image.n a.places.now a.k) (get_or a.image.words.now a.i 0) (between a.image.tags.now a.image.words.now (suc a.i) a.end) m (ap (λ (x : ℕ). optional x []) (sym c.if-x-eq0.true) ∙ (compared_as a.image.tags.now a.image.words.now a.i a.end _ c.compare_operand-x.ensures)))
+pub returns-in_default : goal.returns-in_default
+returns-in_default c = let a = c.args in makes-idle c.requires.valid_arrays c.requires.under c.requires.full_value (λ m. early-none a.offset (mod_of a.image.words.now a.image.n) (needsE a.offset a.image.words.now a.image.tags.now a.image.n a.places.now a.k) (glances a.offset a.image.words.now a.image.tags.now a.image.n a.places.now a.k) (get_or a.image.words.now a.i 0) (between a.image.tags.now a.image.words.now (suc a.i) a.end) m (compared_none a.image.tags.now a.image.words.now a.i a.end _ c.compare_operand.ensures c.in_default.is))
 
 pub import_operand-requires : goal.import_operand-requires
-import_operand-requires c = let a = c.args in let L = legible_next c.requires.legible.0 c.requires.legible.1 in record { ground = c.requires.ground; expressions = c.requires.expressions; e_lt_k = (compare_low a.image.words.now a.k (between a.image.tags.now a.image.words.now (suc a.i) a.end) L.fits _ _ (compared_as a.image.tags.now a.image.words.now a.i a.end _ c.compare_operand-x.ensures) c.if-x-eq0.false refl, c.requires.full_value); valid_arrays = c.requires.valid_arrays; under = c.requires.under }
+import_operand-requires c = let a = c.args in let L = legible_next c.requires.legible.0 c.requires.legible.1 in record { ground = c.requires.ground; expressions = c.requires.expressions; e_lt_k = (compare_low a.image.words.now a.k (between a.image.tags.now a.image.words.now (suc a.i) a.end) L.fits _ c.in-Some.x (compared_some a.image.tags.now a.image.words.now a.i a.end _ c.compare_operand.ensures c.in-Some.x c.in-Some.is) (λ q. omega arith) (omega arith), c.requires.full_value); valid_arrays = c.requires.valid_arrays; under = c.requires.under }
 
 pub returns : goal.returns
-returns c = let a = c.args in makes_as c.import_operand.ensures (λ m. early-one a.offset (mod_of a.image.words.now a.image.n) (needsE a.offset a.image.words.now a.image.tags.now a.image.n a.places.now a.k) (glances a.offset a.image.words.now a.image.tags.now a.image.n a.places.now a.k) (get_or a.image.words.now a.i 0) (between a.image.tags.now a.image.words.now (suc a.i) a.end) m (sym c.atomic.ensures ∙ not-false _ (ap not c.if-not-atomic.false)) _ _ (compared_as a.image.tags.now a.image.words.now a.i a.end _ c.compare_operand-x.ensures) c.if-x-eq0.false refl)
+returns c = let a = c.args in makes_as c.import_operand.ensures (λ m. early-one a.offset (mod_of a.image.words.now a.image.n) (needsE a.offset a.image.words.now a.image.tags.now a.image.n a.places.now a.k) (glances a.offset a.image.words.now a.image.tags.now a.image.n a.places.now a.k) (get_or a.image.words.now a.i 0) (between a.image.tags.now a.image.words.now (suc a.i) a.end) m (sym c.atomic.ensures ∙ not-false _ (ap not c.if-not-atomic.false)) _ c.in-Some.x (compared_some a.image.tags.now a.image.words.now a.i a.end _ c.compare_operand.ensures c.in-Some.x c.in-Some.is) (λ q. omega arith) (omega arith))

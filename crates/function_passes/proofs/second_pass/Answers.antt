@@ -1,5 +1,4 @@
 -- `second_pass` meets its contract: one expression of the range at a turn.
-use Prim.Native.Nat.{◌-◌}
 use native.Mathlib.Omega.{arith}
 use Rattle.derive_lookup.proofs.Bears.{bearing}
 use Rattle.function_passes.proofs.Appending.{appending, append_done, append_skip, append_full, append-more}

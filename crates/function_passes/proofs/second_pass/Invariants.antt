@@ -1,5 +1,4 @@
 -- `second_pass` meets its contract: one expression of the range at a turn.
-use Prim.Native.Nat.{◌-◌}
 use Rattle.function_passes.proofs.Appending.{Appending}
 use Rattle.function_passes.proofs.second_pass.Given as goal
 
