@@ -25,18 +25,15 @@ fn equals_record(image: Image, derived: &Derived, at: usize, end: usize, s: usiz
     ensures { result ≡ alikeOf (rec_at derived.now.log.now derived.now.logtags.now s) (carried_by (went_r derived.now.maps.now) image.entry.tags.now image.entry.words.now at end) }
 {
     let n = end - at;
-    if n == 0 {
-        return alike(image, derived, at, end, s);
-    }
-    if derived.log[s] as usize != n {
-        return false;
-    }
-    let b = image.tags[end - 1];
-    let y = carried(derived.maps, b, image.words[end - 1]);
-    if !alike_cell(derived.logtags[s + n], derived.log[s + n], b, y) {
-        return false;
-    }
-    alike(image, derived, at, end, s)
+    let may_equal = n == 0
+        || derived.log[s] as usize == n
+            && alike_cell(
+                derived.logtags[s + n],
+                derived.log[s + n],
+                image.tags[end - 1],
+                carried(derived.maps, image.tags[end - 1], image.words[end - 1]),
+            );
+    may_equal && alike(image, derived, at, end, s)
 }
 
 // The first of table t's n records that is, ignoring spans, what the source's words become.

@@ -50,13 +50,9 @@ fn find_name(
     requires names { Names log.now logtags.now starts.now n }
     ensures { (result ≡ index_of (recs_at log.now logtags.now (take n starts.now)) (between image.entry.tags.now image.entry.words.now at end)) × (result ≤ 512) }
 {
-    for j in 0..n {
-        let s = starts[j] as usize;
-        if equals_name(image, log, logtags, at, end, s) {
-            return j;
-        }
-    }
-    n
+    (0..n)
+        .find(|j| equals_name(image, log, logtags, at, end, starts[*j] as usize))
+        .unwrap_or(n)
 }
 
 // Whether name m - 1 equals the source's words from `at` to `end`.

@@ -139,6 +139,26 @@ module _ (words : List ℕ) (n : ℕ) (log logtags : List ℕ) (starts : List (L
         pub calls_not : RingsEnsures (f ∷ callees (function (mod_of words n) f)) words n log logtags starts e false
         calls_not = free_not (f ∷ callees (function (mod_of words n) f)) (free-itself (callees (function (mod_of words n) f)) (known-all (callees (function (mod_of words n) f)) (sym hb ∙ no)))
 
+  -- ---- what meets them
+  module _ (tags : List ℕ) (src : Source words tags n) (set : List ℕ) (s : Stuck words n log logtags starts e set) where
+    pub rings-any : (js : List ℕ) (r : Bool) → r ≡ any js (is_of set) → RingsEnsures js words n log logtags starts e r
+    unfolding meets_ring
+    rings-any js r h = record { is = λ maps special. h ∙ ap (λ (x : List ℕ). any js (λ i. any x (eqb i))) (s.is maps special) }
+
+    module _ (f : ℕ) (hf : f < count_at 6 words) where
+      low : f < 256
+      low = omega (arith, few src)
+
+      one : (b : Bool) → b ≡ cond b true false
+      one true = refl
+      one false = refl
+
+      pub rings-one : (r : Bool) → r ≡ holds set f → RingsEnsures (f ∷ []) words n log logtags starts e r
+      rings-one r h = rings-any (f ∷ []) r (unfold any in h ∙ holds_is set f low ∙ one (is_of set f))
+
+      pub rings-itself : (r : Bool) → r ≡ holds set f → r ≡ true → RingsEnsures (f ∷ callees (function (mod_of words n) f)) words n log logtags starts e true
+      rings-itself r h t = rings-any (f ∷ callees (function (mod_of words n) f)) true (unfold any in rw (sym (holds_is set f low) ∙ sym h ∙ t))
+
   module _ (tags : List ℕ) (src : Source words tags n) (cs : List FunctionSet) (g : Gathered words tags n cs) where
     -- ---- the stuck ones
     module _ (c : ℕ) (hc : c ≡ count_at 6 words) (every : List ℕ) (fs : Firsts c every) where
@@ -178,26 +198,9 @@ module _ (words : List ℕ) (n : ℕ) (log logtags : List ℕ) (starts : List (L
                     ∙ ap (λ (x : ℕ). (rounds (calls M) x (keep (numbers x 0) (unknown M (st_of words log logtags starts maps special e)))).left) k;
               }
 
-    -- ---- what meets them
+    -- ---- and one that is called meets them
     module _ (set : List ℕ) (s : Stuck words n log logtags starts e set) where
-      pub rings-any : (js : List ℕ) (r : Bool) → r ≡ any js (is_of set) → RingsEnsures js words n log logtags starts e r
-      unfolding meets_ring
-      rings-any js r h = record { is = λ maps special. h ∙ ap (λ (x : List ℕ). any js (λ i. any x (eqb i))) (s.is maps special) }
-
       module _ (f : ℕ) (hf : f < count_at 6 words) where
-        low : f < 256
-        low = omega (arith, few src)
-
-        one : (b : Bool) → b ≡ cond b true false
-        one true = refl
-        one false = refl
-
-        pub rings-one : (r : Bool) → r ≡ holds set f → RingsEnsures (f ∷ []) words n log logtags starts e r
-        rings-one r h = rings-any (f ∷ []) r (unfold any in h ∙ holds_is set f low ∙ one (is_of set f))
-
-        pub rings-itself : (r : Bool) → r ≡ holds set f → r ≡ true → RingsEnsures (f ∷ callees (function (mod_of words n) f)) words n log logtags starts e true
-        rings-itself r h t = rings-any (f ∷ callees (function (mod_of words n) f)) true (unfold any in rw (sym (holds_is set f low) ∙ sym h ∙ t))
-
         abbrev F : Function
         F = get_or (mod_of words n).functions f nothing
 
@@ -220,4 +223,4 @@ module _ (words : List ℕ) (n : ℕ) (log logtags : List ℕ) (starts : List (L
             in_any (marked cs f) b.1 (called b.0 (members_in set b.0 b.1).0 ∙ in_any (λ k. eqb b.0 k) a.1 (eq-eqb b.0 a.0 (sym (eqb-true a.0 b.0 b.2)))))
 
         pub rings-callees : (b r : Bool) → b ≡ holds set f → b ≡ false → r ≡ any (members set) (marked cs f) → RingsEnsures (f ∷ callees (function (mod_of words n) f)) words n log logtags starts e r
-        rings-callees b r h t q = rings-any (f ∷ callees (function (mod_of words n) f)) r (unfold any in rw (sym (holds_is set f low) ∙ sym h ∙ t) (q ∙ swap))
+        rings-callees b r h t q = rings-any tags src set s (f ∷ callees (function (mod_of words n) f)) r (unfold any in rw (sym (holds_is set f (low tags src set s f hf)) ∙ sym h ∙ t) (q ∙ swap))

@@ -61,6 +61,18 @@ pub fn unknown_in_ring(image: Image, derived: &Derived, callees: &[FunctionSet; 
     left(callees, functions, waiting)
 }
 
+// The same, with the calls of the image gathered first.
+fn stuck(image: Image, derived: &Derived) -> FunctionSet
+    requires source { Source image.words.now image.tags.now image.n }
+    requires n_value { named (mod_of image.words.now image.n) ≡ true }
+    requires bearing { Bearing derived.now.log.now derived.now.logtags.now derived.now.starts.now derived.now.sizes }
+    ensures { Stuck image.entry.words.now image.entry.n derived.now.log.now derived.now.logtags.now derived.now.starts.now derived.now.sizes result.0 }
+{
+    let mut callees = clear();
+    gather_requirements(image, &mut callees);
+    unknown_in_ring(image, derived, &callees)
+}
+
 // Whether the words from `at` to `end` call one of a set.
 fn calls_one(image: Image, at: usize, end: usize, set: &FunctionSet) -> bool
     requires { Scannable image.words.now image.tags.now at end 256 }
@@ -130,6 +142,7 @@ pub fn import_rings(image: Image, derived: &Derived, f: usize) -> bool
     requires f_bound { f < count_at 6 image.words.now }
     ensures { RingsEnsures (f ∷ callees_of (function (mod_of image.entry.words.now image.entry.n) f)) image.entry.words.now image.entry.n derived.now.log.now derived.now.logtags.now derived.now.starts.now derived.now.sizes result }
 {
+    // returns early: what is left uses the calls twice, and as an operand of `&&` it would be a block
     if !calls_unknown_name(image, derived, f) {
         return false;
     }
@@ -147,13 +160,9 @@ pub fn follow_rings(image: Image, derived: &Derived, f: usize) -> bool
     requires f_bound { f < count_at 6 image.words.now }
     ensures { RingsEnsures (f ∷ []) image.entry.words.now image.entry.n derived.now.log.now derived.now.logtags.now derived.now.starts.now derived.now.sizes result }
 {
-    if known(image, derived, f) != 0 || !calls_unknown_name(image, derived, f) {
-        return false;
-    }
-    let mut callees = clear();
-    gather_requirements(image, &mut callees);
-    let set = unknown_in_ring(image, derived, &callees);
-    set.has(f)
+    known(image, derived, f) == 0
+        && calls_unknown_name(image, derived, f)
+        && stuck(image, derived).has(f)
 }
 
 // Whether the function of an entry point calls one of unknown name.
@@ -181,11 +190,5 @@ pub fn entries_ring(image: Image, derived: &Derived) -> bool
     requires bearing { Bearing derived.now.log.now derived.now.logtags.now derived.now.starts.now derived.now.sizes }
     ensures { RingsEnsures (calleesOfAll (mod_of image.entry.words.now image.entry.n).entries) image.entry.words.now image.entry.n derived.now.log.now derived.now.logtags.now derived.now.starts.now derived.now.sizes result }
 {
-    if !entries_lead(image, derived) {
-        return false;
-    }
-    let mut callees = clear();
-    gather_requirements(image, &mut callees);
-    let set = unknown_in_ring(image, derived, &callees);
-    entries_call(image, &set)
+    entries_lead(image, derived) && entries_call(image, &stuck(image, derived))
 }

@@ -51,7 +51,8 @@ pub fn import(
     got
 }
 
-// Imports type h under the name with the given number.
+// Imports type h under the name with the given number. A twin of `import`: one function for both would take all these arrays and a closure that takes five of
+// them again, and be longer than the two.
 pub fn rename_type(
     image: Image,
     log: &mut Log,

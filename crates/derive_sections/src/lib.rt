@@ -1,5 +1,6 @@
 // The sections of an image from the records of a log: one pass over the tables after the names meets the names in the order of first appearance, and each
-// table is written as its offsets and its records, with the names' new numbers.
+// table is written as its offsets and its records, with the names' new numbers. What notes or writes is a loop: each turn writes to arrays and hands a number
+// on, and as a fold it would be a closure with the same body.
 #![tactic(auto)]
 
 ghost use Rattle.std.specs.Prelude.{◌≡◌, [], ◌∷◌, map, ◌+◌, ◌*◌, ◌≤◌, ◌<◌, length, get_or, take, drop};
@@ -14,7 +15,8 @@ use base_classes::NAME;
 use base_views::HEADER;
 use derive_state::{Derived, Log, LogTags, Starts};
 
-// Notes one name: after the n that were met, unless it is among them. Its place is the word that will name it: its new number plus 1, or 0 for none yet.
+// Notes name m after the n that were met, unless it is among them; answers how many are met now. `places` has the word by which each name will be written,
+// and 0 while it is not met.
 fn note(order: &mut [u32; 512], places: &mut [u32; 512], names: usize, n: usize, m: usize) -> usize
     requires { (m < names) × AppearingEnsures names (take n order.old) order.old places.old n }
     ensures { AppearingEnsures names (keep_n (take n order.old) m) order.new places.new result }

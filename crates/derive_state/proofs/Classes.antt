@@ -126,12 +126,6 @@ module _ (maps : List (List ℕ)) (six : length maps ≡ 6) where
     unfolding through
     carried_ref e = rw is (ref_W (target s) w (omega arith))
 
-    pub carried_ref_zero : u < 6 → (m : ℕ) → m ≡ w → get_or (get_or maps u []) m 0 ≡ 0 → 0 ≡ through (went_r maps) s w
-    carried_ref_zero e m q z = let z' : get_or (get_or maps u []) w 0 ≡ 0 = rw q at z in rw z' at (carried_ref e)
-
-    pub carried_ref_less : u < 6 → (m : ℕ) → m ≡ w → (get_or (get_or maps u []) m 0 ≡ 0 → ⊥) → get_or (get_or maps u []) m 0 - 1 ≡ through (went_r maps) s w
-    carried_ref_less e m q z = let p : get_or (get_or maps u []) m 0 - 1 ≡ pred (get_or (get_or maps u []) m 0) = omega arith in p ∙ rw q (carried_ref e)
-
     pub carried_opt_none : 8 ≤ u → w ≡ 0 → 0 ≡ through (went_r maps) s w
     unfolding through
     carried_opt_none e z = rw z (zero_W (target s) (omega arith))

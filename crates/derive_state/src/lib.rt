@@ -177,23 +177,13 @@ pub fn carried(maps: &Maps, s: u8, w: u32) -> u32
     ensures { result ≡ through (went_r maps.now) s w }
 {
     let u = target_of(s);
-    if u == NOTHING {
-        return w;
+    match u {
+        0..=OWN => number_of(maps[u][w as usize]),
+        NOTHING => w,
+        FUNCTION => 0,
+        _ if w == 0 => 0,
+        _ => maps[u - OPTIONAL][w as usize - 1],
     }
-    if u == FUNCTION {
-        return 0;
-    }
-    if u < NOTHING {
-        let v = maps[u][w as usize];
-        if v == 0 {
-            return 0;
-        }
-        return v - 1;
-    }
-    if w == 0 {
-        return 0;
-    }
-    maps[u - OPTIONAL][(w - 1) as usize]
 }
 
 // Whether the word x of the class a equals the word y of the class b; for words of spans only the classes are compared.
@@ -259,16 +249,11 @@ fn undefined_at(image: Image, maps: &Maps, s: u8, w: u32, i: usize, end: usize, 
     requires maps_len { length maps.now ≡ 6 }
     ensures { result ≡ undefined_at (target s) w (first_word (carried_by (went_r maps.now) image.entry.tags.now image.entry.words.now i end)) u }
 {
-    if s != SPAN {
-        return u;
+    if s == SPAN {
+        w == 0 && (end <= i || carried(maps, image.tags[i], image.words[i]) == 0)
+    } else {
+        u
     }
-    if w != 0 {
-        return false;
-    }
-    if i < end {
-        return carried(maps, image.tags[i], image.words[i]) == 0;
-    }
-    true
 }
 
 // A span's word moved by the offset, unless the span is undefined; any other word as it is.

@@ -1,34 +1,26 @@
 -- The steps of the passes: one lemma for each return, each turn of a loop and each call.
-use mathlib.Core.Path.{◌≡◌, refl, sym, ◌∙◌}
+use mathlib.Core.Path.{◌≡◌, refl, sym, ap, ◌∙◌}
 use mathlib.Core.Bool.{Bool, true, false, ◌&&◌, not}
 use mathlib.Core.List.{List, ◌∷◌}
-use Prim.Native.Nat.{ℕ, suc, ◌+◌, ◌≤◌, ◌<◌}
+use Prim.Native.Nat.{ℕ, zero, suc, ◌+◌, ◌≤◌, ◌<◌}
 use native.Mathlib.Numerals.{add-one}
 use lib.Dec.{eqb}
 use lib.ListN.{length, get_or, set, length-set, length-replicate}
 use borrow.Author.Tests.{eq-eqb, ne_eqb}
+use Rattle.std.specs.List.{list_all, range_with_len}
 use Rattle.model.specs.Table.{NAMED-EXPR, NAMED}
 use Rattle.model.specs.Between.{between, Stretch}
 use Rattle.model.specs.Carry.{Each, each_next}
 use Rattle.model.specs.Names.{present}
 use Rattle.theory_image.specs.Betweens.{between_none, between_next}
-use Rattle.intake_distinct.specs.Listed.{number_at}
-use Rattle.intake_distinct.proofs.Steps.{Over, over_none, over_next, over_on}
+use Rattle.intake_distinct.specs.Listed.{listing}
 use Rattle.intake_names.specs.Passes.{unnamed, NONE, marking, Small}
 
 -- ---- names that are there
-pub present_done : (ws : List ℕ) (k : ℕ) (whole : Bool) (n i : ℕ) → Over present (number_at ws k) whole n i → n ≤ i → true ≡ whole
-unfolding present
-present_done ws k whole n i o h = over_none present (number_at ws k) whole n i o h
-
-module _ (ws : List ℕ) (k n i : ℕ) (whole : Bool) (o : Over present (number_at ws k) whole n i) (h : i < n) (x : ℕ) (is : x ≡ number_at ws k i) where
-  pub present-none : x ≡ 0 → false ≡ whole
-  unfolding present
-  present-none e = rw (eq-eqb (number_at ws k i) 0 (sym is ∙ e)) at (over_next present (number_at ws k) whole n i o h)
-
-  pub present-next : (x ≡ 0 → ⊥) → Over present (number_at ws k) whole n (i + 1)
-  unfolding present
-  present-next e = over_on present (number_at ws k) whole n i o h (rw (present, ne_eqb (number_at ws k i) 0 λ z. e (is ∙ z)))
+pub present_is : (at : ℕ → ℕ) (n from : ℕ) → list_all (λ j. not (eqb (at j) 0)) (range_with_len from n) ≡ present (listing at n from)
+unfolding present listing
+present_is at zero from = refl
+present_is at (suc n) from = ap (not (eqb (at from) 0) &&◌) (rw (← add-one from) (present_is at n (from + 1)))
 
 -- ---- named expressions
 each_first : {A : Type 0} {P : A → Type 0} {x : A} {xs : List A} → Each P (x ∷ xs) → P x

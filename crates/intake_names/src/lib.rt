@@ -21,12 +21,7 @@ fn present(words: &Words, k: usize) -> bool
     requires { Placed words.now k }
     ensures { result ≡ presentOf (listing (number_at words.now k) (count_at k words.now) 0) }
 {
-    for j in 0..count(words, k) {
-        if number(words, k, j) == 0 {
-            return false;
-        }
-    }
-    true
+    (0..count(words, k)).all(|j| number(words, k, j) != 0)
 }
 
 // Whether a word w of the class s, after a word of the class `before`, is the name of an expression, and is none.

@@ -39,10 +39,10 @@ fn visible(
     requires { Placed starts.now count }
     ensures { result ≡ visible_at words.now starts.now until.now count at e }
 {
+    // a ladder: the second test has a name, so that an edit of it leaves the goals their names, and it reads what only the first allows
     if count <= e {
         return false;
     }
-    // a test with a name, so that an edit of it leaves the goals their names
     let live = at < until[e];
     live || stands(kind(words, starts, e))
 }

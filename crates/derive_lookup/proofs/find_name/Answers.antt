@@ -1,26 +1,20 @@
 use mathlib.Core.Path.{refl}
 use native.Mathlib.Omega.{arith}
+use borrow.Author.Tests.{tests}
+use Prim.Native.Nat.{◌≤◌}
+use lib.ListN.{length}
+use Rattle.std.proofs.Common.{rules}
+use Rattle.std.proofs.lemmas.Iterator.{YieldsList-from_range}
+use Rattle.std.proofs.lemmas.Iterator.Search.{find_from_yields_List}
 use Rattle.model.specs.Between.{between}
-use Rattle.derive_state.proofs.Passes.{seek_first, seek_found, seek_more, seek_last}
+use Rattle.derive_lookup.proofs.Seeking.{is_alike, first_is}
 use Rattle.derive_lookup.proofs.find_name.Goals as goal
 
-pub loop-j-init : goal.loop-j-init
-loop-j-init c = seek_first c.args.log.now c.args.logtags.now c.args.starts.now (between c.args.image.tags.now c.args.image.words.now c.args.at c.args.end) c.args.n (rw c.requires.names.starts_long c.requires.names.few)
-
-pub offset_bounds-starts-j : goal.offset_bounds-starts-j
-offset_bounds-starts-j c = omega (arith, c.requires.names.few, c.loop-j.invariant.low)
-
-pub bounds-starts-j : goal.bounds-starts-j
-bounds-starts-j c = omega (arith, c.requires.names.few)
-
-pub equals_name-requires : goal.equals_name-requires
-equals_name-requires c = record { readable = c.requires.readable; s_bound = ((c.requires.names.within c.loop-j.j c.loop-j-test.true), c.requires.names.log_long, c.requires.names.tags_long) }
-
-pub returns-then-equals_name : goal.returns-then-equals_name
-returns-then-equals_name c = (seek_found c.args.log.now c.args.logtags.now c.args.starts.now (between c.args.image.tags.now c.args.image.words.now c.args.at c.args.end) c.args.n (rw c.requires.names.starts_long c.requires.names.few) c.loop-j.j c.loop-j.invariant c.loop-j-test.true _ refl _ c.equals_name.ensures c.if-equals_name.true, omega (arith, c.requires.names.few, c.loop-j-test.true))
-
-pub loop-j-preserved : goal.loop-j-preserved
-loop-j-preserved c = seek_more c.args.log.now c.args.logtags.now c.args.starts.now (between c.args.image.tags.now c.args.image.words.now c.args.at c.args.end) c.args.n (rw c.requires.names.starts_long c.requires.names.few) c.loop-j.j c.loop-j.invariant c.loop-j-test.true _ refl _ c.equals_name.ensures c.if-equals_name.false
-
 pub returns : goal.returns
-returns c = (seek_last c.args.log.now c.args.logtags.now c.args.starts.now (between c.args.image.tags.now c.args.image.words.now c.args.at c.args.end) c.args.n (rw c.requires.names.starts_long c.requires.names.few) c.loop-j.j c.loop-j.invariant c.loop-j-test.false, c.requires.names.few)
+returns c =
+    let a = c.args in
+    let names = c.requires.names in
+    let within : a.n ≤ length a.starts.now = rw names.starts_long names.few in
+    let cells = between a.image.tags.now a.image.words.now a.at a.end in
+    let first = first_is a.log.now a.logtags.now a.starts.now cells a.n within c.find.result (find_from_yields_List (is_alike a.log.now a.logtags.now a.starts.now cells a.n within) _ _ c.find.result c.find.ensures.ran (YieldsList-from_range 0 a.n a.n refl (omega arith)) (λ x b q k. search (rules, tests))) in
+    rw c.unwrap_or.ensures (first.0, omega (arith, first.1, names.few))

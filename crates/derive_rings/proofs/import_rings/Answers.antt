@@ -22,7 +22,7 @@ pub has-requires : goal.has-requires
 has-requires c = omega (arith, few c.requires.source, c.requires.f_bound)
 
 pub returns-then-has : goal.returns-then-has
-returns-then-has c = rw (c.if-has.true) (rings-itself c.args.image.words.now c.args.image.n c.args.derived.now.log.now c.args.derived.now.logtags.now c.args.derived.now.starts.now c.args.derived.now.sizes c.args.image.tags.now c.requires.source _ c.gather_requirements.ensures _ c.unknown_in_ring-set.ensures c.args.f c.requires.f_bound _ c.has.ensures c.if-has.true)
+returns-then-has c = rw (c.if-has.true) (rings-itself c.args.image.words.now c.args.image.n c.args.derived.now.log.now c.args.derived.now.logtags.now c.args.derived.now.starts.now c.args.derived.now.sizes c.args.image.tags.now c.requires.source _ c.unknown_in_ring-set.ensures c.args.f c.requires.f_bound _ c.has.ensures c.if-has.true)
 
 pub bounds-callees-f : goal.bounds-callees-f
 bounds-callees-f c = omega (arith, few c.requires.source, c.requires.f_bound)

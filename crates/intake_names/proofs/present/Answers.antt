@@ -1,26 +1,20 @@
--- `intake_names::present` meets its contract: the invariant is that what is left from number i on says what the whole says.
-use mathlib.Core.Path.{refl}
+-- `intake_names::present` meets its contract: each number of the section is not 0.
+use lib.Dec.{eqb}
+use mathlib.Core.Bool.{not}
+use mathlib.Core.Path.{refl, ap, ◌∙◌}
 use native.Mathlib.Omega.{arith}
+use borrow.Author.Tests.{tests}
+use Rattle.std.proofs.Common.{rules}
+use Rattle.std.proofs.lemmas.Iterator.{YieldsList-from_range}
+use Rattle.std.proofs.lemmas.Iterator.Search.{all_from_yields_List}
 use Rattle.model.specs.Names.{present}
-use Rattle.intake_distinct.specs.Listed.{number_at}
-use Rattle.intake_distinct.proofs.Steps.{over_all}
-use Rattle.intake_names.proofs.Steps.{present_done, present-none, present-next}
+use Rattle.intake_distinct.specs.Listed.{listing, number_at}
+use Rattle.intake_names.proofs.Steps.{present_is}
 use Rattle.intake_names.proofs.present.Goals as goal
 
-pub count-j-end-requires : goal.count-j-end-requires
-count-j-end-requires c = c.requires.known
-
-pub loop-j-init : goal.loop-j-init
-loop-j-init c = over_all present (number_at c.args.words.now c.args.k) _ _ _ c.count-j-end.ensures.0 refl
-
-pub number-requires : goal.number-requires
-number-requires c = let h = c.count-j-end.ensures in record { placed = c.requires; j_bound = omega arith; j_bound_2 = omega arith }
-
-pub returns-then-number-eq0 : goal.returns-then-number-eq0
-returns-then-number-eq0 c = present-none _ _ _ _ _ c.loop-j.invariant c.loop-j-test.true _ c.number.ensures c.if-number-eq0.true
-
-pub loop-j-preserved : goal.loop-j-preserved
-loop-j-preserved c = present-next _ _ _ _ _ c.loop-j.invariant c.loop-j-test.true _ c.number.ensures c.if-number-eq0.false
-
 pub returns : goal.returns
-returns c = present_done _ _ _ _ _ c.loop-j.invariant c.loop-j-test.false
+returns c =
+    let a = c.args in
+    let at = number_at a.words.now a.k in
+    all_from_yields_List (λ j. not (eqb (at j) 0)) _ _ c.all.result c.all.ensures.ran (YieldsList-from_range 0 c.count.result c.count.result refl (omega arith)) (λ x v q k. search (rules, tests))
+    ∙ present_is at c.count.result 0 ∙ ap (λ n. present (listing at n 0)) c.count.ensures.0
