@@ -1,5 +1,5 @@
 // The classes of words by name, as the tags have them and code compares them: the model's numbers, each written here once. What each class is, the
-// model's field table says.
+// model's field table says. They are numbers, since the tags lie in memory that C lends as bytes, and whatever those hold is no value of an enum.
 #![tactic(auto)]
 
 ghost use Rattle.std.specs.Prelude.{◌≡◌};

@@ -1,5 +1,6 @@
 // The kinds of expressions and statements by name, those that code compares, and which kinds of expressions are standing,
-// which are emitted and which are allowed outside functions.
+// which are emitted and which are allowed outside functions. They are numbers, as the words of an image are: each is compared in a place or two, and to read
+// an enum of it would add a case, a word that is no kind, which intake has ruled out.
 #![tactic(auto)]
 
 ghost use Rattle.std.specs.Prelude.{◌≡◌};

@@ -29,15 +29,6 @@ pub enum Refusal {
     UnknownRing,
 }
 
-// The numbers of these four are named, since what the operations of a session answer has a number for its refusal.
-pub const NUMBER_GIVEN: u32 = 13;
-
-pub const NO_SOURCE: u32 = 20;
-
-pub const FULL: u32 = 21;
-
-pub const UNKNOWN_RING: u32 = 22;
-
 // The numbers of all of them, which are the model's.
 pub fn all() -> [u32; 16]
     ensures { result ≡ refusals }
@@ -81,10 +72,10 @@ impl Refusal {
             Refusal::ArgumentTypes => 10,
             Refusal::ResultTypes => 11,
             Refusal::Ring(_) => 12,
-            Refusal::NumberGiven => NUMBER_GIVEN,
-            Refusal::NoSource => NO_SOURCE,
-            Refusal::Full => FULL,
-            Refusal::UnknownRing => UNKNOWN_RING,
+            Refusal::NumberGiven => 13,
+            Refusal::NoSource => 20,
+            Refusal::Full => 21,
+            Refusal::UnknownRing => 22,
         }
     }
 

@@ -20,7 +20,7 @@ pub const OFFSETS: usize = 3;
 
 pub const HEADER: usize = 20;
 
-// The sections by number: eight tables, and the special types.
+// The sections by number: eight tables, and the special types. Numbers and no enum, since they are rows of arrays that loops count through.
 pub const NAMES: usize = 0;
 
 pub const TYPES: usize = 1;
@@ -182,7 +182,8 @@ impl Image<'_> {
         start_of(self.words, ENTRIES, j) + ENTRY_HEAD
     }
 
-    // Where the named expressions of the function at s start. Expressions have no fixed size: after the last one, the tags have the class of the count of named expressions.
+    // Where the named expressions of the function at s start. Expressions have no fixed size: after the last one, the tags have the class of the count of
+    // named expressions. A `while`, since that class is there: a `for` to the end of the tags would have a case that never is.
     pub fn named_at(self, s: usize) -> usize
         requires { Standing self.words.now self.tags.now s }
         ensures { Named result self.entry.words.now self.entry.tags.now s }

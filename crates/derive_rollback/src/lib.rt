@@ -15,7 +15,7 @@ use base_views::Image;
 use derive_snapshot::{restore, save};
 use derive_state::{Buckets, Log, LogTags, Maps, Sizes, Starts};
 
-// The derived number that number h of table t is mapped to.
+// The derived number that number h of table t is mapped to, and 0 where it is to none: no Option, since who asks has just imported it.
 pub fn mapped_to(maps: &Maps, t: usize, h: u32) -> u32
     requires { (t < 6) × (h < 512) }
     ensures { MappedToEnsures maps.now t h result }

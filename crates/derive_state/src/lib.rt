@@ -163,7 +163,7 @@ pub fn target_of(s: u8) -> usize
     TARGETS[s as usize] as usize
 }
 
-// The number before v, or 0.
+// One less than v, and 0 of 0.
 pub fn number_of(v: u32) -> u32
     ensures { result ≡ pred v }
 {

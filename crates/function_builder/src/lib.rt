@@ -79,7 +79,8 @@ pub fn carried(image: Image, derived: &Derived, exprmap: &ExprMap, s: u8, w: u32
     by_maps(derived.maps, exprmap, s, w)
 }
 
-// Whether the span last met is undefined, once the word w of the class s is read; the words from i on follow it.
+// Whether the span last met is undefined, once the word w of the class s is read; the words from i on follow it. As derive_state's of that name, but for what
+// carries a word: one for both would take that as a closure, and each of the two would be as long as now.
 fn undefined_at(
     image: Image,
     derived: &Derived,

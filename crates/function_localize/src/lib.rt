@@ -136,6 +136,7 @@ pub fn localize(
     }
     let mut i = at.body;
     let mut u = false;
+    // a turn steps by the run that it finds
     while i < end {
         let r = copy_mapped_run(
             image,

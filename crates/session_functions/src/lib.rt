@@ -38,7 +38,8 @@ fn empty_stacks(stacks: &mut StackRows)
     *stacks = [[0; 16384]; 4];
 }
 
-// Appends function f; where it does not fit nothing has changed.
+// Appends function f; where it does not fit nothing has changed. One function for this and the next would take what lies between saving and undoing as a closure
+// that writes ten arrays, of which a contract would have to say all that these two say.
 fn append_or_undo(
     image: Image,
     log: &mut Log,

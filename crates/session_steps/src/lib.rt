@@ -69,7 +69,8 @@ impl TryFrom<u32> for Operation {
     }
 }
 
-// What a step answers, and the session after it: whether a source is set, its words and its offset, and the sizes of the derived module.
+// What a step answers, the three words that C reads, the refusal's number first; and the session after it: whether a source is set, its words and its offset, and
+// the sizes of the derived module.
 #[derive(Clone, Copy)]
 pub struct Answered {
     pub refusal: u32,
