@@ -131,6 +131,7 @@ pub fn pack(refusal: u32, value: u32) -> u64
 }
 
 // The same of a result: its value, or its refusal, of which a ring alone has a count in the high half.
+// A number and no `Result`, since C reads one number.
 pub fn answer(r: Result<u32, Refusal>) -> u64
     ensures { result ≡ answer_by (λ v. v) (ended r) }
 {

@@ -1,4 +1,4 @@
-// Where the parts of a module are in its words: sections and their records, by header and offsets; the lists of a function, by the counts before
+// An image that is laid out, and where the parts of a module are in its words: sections and their records, by header and offsets; the lists of a function, by the counts before
 // them. The one home of these places in code.
 #![tactic(auto)]
 
@@ -153,7 +153,7 @@ pub fn expressions_at(words: &Words, s: usize) -> usize
 }
 
 impl Image<'_> {
-    // Where record j of section k starts, of words and tags that hold a module.
+    // Where record j of section k starts, of an image that holds a module.
     pub fn record_at(self, k: usize, j: usize) -> usize
         requires tape { Tape self.words.now self.tags.now self.n }
         requires k_bound { k < 8 }

@@ -5,7 +5,7 @@ ghost use Rattle.std.specs.Prelude.{◌≡◌, length};
 ghost use Rattle.derive_finish.specs.Told.{Held, Ended, refusal_of, bytes_in};
 
 use base_refusals::Refusal;
-use derive_state::{Derived, Log, LogTags, Sizes, Special, Starts};
+use derive_state::{Derived, Special};
 
 // How many records each table has, as wider numbers.
 fn widened(counts: [u16; 8]) -> [usize; 8]

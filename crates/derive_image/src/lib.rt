@@ -13,7 +13,7 @@ use base_refusals::Refusal;
 use base_views::{ENTRIES, FUNCTIONS, HEADER};
 use base_words::store;
 use derive_sections::{all_sizes, appearing, write_heads, write_tables};
-use derive_state::{Derived, Log, LogTags, Special, Starts};
+use derive_state::{Derived, Special};
 
 // How many functions and entry points an image may have.
 const MOST_FUNCTIONS: usize = 256;

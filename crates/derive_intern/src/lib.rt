@@ -2,7 +2,7 @@
 // before anything is written: with the record that its bucket shows; only where the bucket shows several is the table searched.
 #![tactic(auto)]
 
-ghost use Rattle.std.specs.Prelude.{MatchOption, ◌≡◌, true, false, ℕ, suc, ◌+◌, ◌-◌, ◌≤◌, ◌<◌, length, get_or, take};
+ghost use Rattle.std.specs.Prelude.{MatchOption, ◌≡◌, false, ℕ, suc, ◌+◌, ◌-◌, ◌≤◌, ◌<◌, length, get_or, take};
 ghost use Rattle.model.specs.Module.{count_at};
 ghost use Rattle.model.specs.Between.{between};
 ghost use Rattle.model.specs.References.{shift, index_of, alike as alikeOf};

@@ -16,7 +16,7 @@ ghost use Rattle.derive_state.specs.Held.{rec_at, recs_at, Readable};
 ghost use Rattle.derive_lookup.specs.Bearing.{Names, Went, Heads, Bearing, KnownEnsures};
 
 use base_views::{FUNCTIONS, Image, NAMES};
-use derive_state::{Derived, Log, LogTags, Maps, Sizes, Starts, alike_cell};
+use derive_state::{Derived, Log, LogTags, alike_cell};
 
 // Whether the record at s equals the source's words from `at` to `end`.
 fn equals_name(image: Image, log: &Log, logtags: &LogTags, at: usize, end: usize, s: usize) -> bool

@@ -20,7 +20,7 @@ ghost use Rattle.derive_rings.specs.Rings.{unknown_by, Unknowns, Stuck, RingsEns
 use base_classes::CALLEE;
 use base_views::{ENTRIES, FUNCTIONS, Image, count};
 use derive_lookup::known;
-use derive_state::{Derived, Log, LogTags, Maps, Sizes, Starts};
+use derive_state::Derived;
 use order_callees::gather_requirements;
 use order_ranks::{FunctionSet, clear, left};
 

@@ -13,7 +13,7 @@ ghost use Rattle.derive_sections.specs.Rows.{tabs_of, Rec, Row, Rows, AppearingE
 
 use base_classes::NAME;
 use base_views::HEADER;
-use derive_state::{Derived, Log, LogTags, Starts};
+use derive_state::Derived;
 
 // Notes name m after the n that were met, unless it is among them; answers how many are met now. `places` has the word by which each name will be written,
 // and 0 while it is not met.

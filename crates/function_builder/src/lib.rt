@@ -26,8 +26,8 @@ use base_views::Image;
 use base_words::Tags;
 use derive_lookup::known;
 use derive_state::{
-    Derived, ExprMap, FUNCTION, Log, LogTags, Maps, OPT_OWN, OWN, Places, Sizes, StackRows, Starts,
-    mark_full, moved, number_of, target_of,
+    Derived, ExprMap, FUNCTION, Maps, OPT_OWN, OWN, Places, Sizes, StackRows, mark_full, moved,
+    number_of, target_of,
 };
 
 // The rows of the stacks: words and classes of expressions, where each of them starts, and words of declarations, bodies and names.

@@ -12,7 +12,7 @@ ghost use Rattle.function_builder.specs.Makes.{Pushed};
 ghost use Rattle.derive_state.specs.Refers.{target_bytes};
 
 use base_views::Image;
-use derive_state::{Derived, ExprMap, Log, LogTags, Maps, Sizes, StackRows, Starts, moved};
+use derive_state::{Derived, ExprMap, Sizes, StackRows, moved};
 use function_builder::{carried, push};
 
 // Pushes word i on the stack, carried through the maps and with its span moved.

@@ -10,7 +10,7 @@ use base_refusals::Refusal;
 use base_views::Image;
 use base_words::{Tags, Words};
 
-// Tests 3 to 6, of words and tags that hold an image of n words.
+// Tests 3 to 6, of an image that is laid out.
 fn test(image: Image) -> Result<usize, Refusal>
     requires { Tape image.words.now image.tags.now image.n }
     ensures { Tested result image.entry.words.now image.entry.tags.now image.entry.n }

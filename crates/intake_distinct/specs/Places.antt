@@ -35,7 +35,7 @@ pub record Leaves (before : List ℕ) (p h : ℕ) (after : List ℕ) (r : Bool) 
   pub own : stands after p h ≡ true
   pub others : (q g : ℕ) → stands before q g ≡ true → stands after q g ≡ true
 
--- ---- code that gives a hash to each of n, and is asked of it: h is what it gives and a what it says, and what has the hash of no later one is alone
+-- ---- of n things, code that gives the hash of the j-th and code that says whether it is alone: h and a are what they answer, and what has the hash of no later one is alone
 pub record Says (hashes : ℕ → ℕ → Type 0) (asks : ℕ → Bool → Type 0) (n : ℕ) (h : ℕ → ℕ) (a : ℕ → Bool) : Type 0 where
   pub hashed : (j r : ℕ) → j < n → hashes j r → r ≡ h j
   pub asked : (j : ℕ) (b : Bool) → j < n → asks j b → b ≡ a j

@@ -14,7 +14,7 @@ unfoldable pub finds : ℕ → List ℕ → List ℕ
 finds at [] = []
 finds at (s ∷ ss) = elim (eqb s NAMED) [ true ↦ at ∷ [] | false ↦ elim (eqb s EXPR_KIND) [ true ↦ at ∷ finds (suc at) ss | false ↦ finds (suc at) ss ] ]
 
--- the places xs written from the first on, in a type that `gives` says how to make of a number: of as many as are written each is the number's
+-- the places xs are written from the first on, as values of a type that `gives` makes of numbers
 pub record Found {N : Type 0} (gives : ℕ → N → Type 0) (xs : List ℕ) (before after : List N) : Type 0 where
   pub same : (of : ℕ → N) → ((x : ℕ) (y : N) → gives x y → y ≡ of x) → after ≡ sets before 0 (map of xs)
 

@@ -4,7 +4,6 @@
 
 ghost use Rattle.std.specs.Prelude.{◌≡◌, [], ◌∷◌, ◌+◌, ◌*◌, ◌≤◌, length, drop};
 ghost use Rattle.std.proofs.Math.Seq.{slice};
-ghost use Rattle.std.proofs.lemmas.List.Edits.{sets};
 ghost use Rattle.model.specs.Operands.{ops_of};
 ghost use Rattle.model.specs.Between.{between, Long};
 ghost use Rattle.intake_initialisers.specs.Lists.{Listed, Initialised};

@@ -108,7 +108,7 @@ fn pass<N: Fn(u8, usize) -> usize, K: Fn(u8, u32, usize) -> bool>(
     true
 }
 
-// Whether every reference of the image that words and tags hold is lower.
+// Whether every reference of the image is lower.
 pub fn lower(image: Image) -> bool
     requires { Tape image.words.now image.tags.now image.n }
     ensures { (m : Module) → Taped image.entry.words.now image.entry.tags.now image.entry.n m → result ≡ lowerOf m }

@@ -60,7 +60,7 @@ fn expressions(image: Image, at: usize, end: usize) -> bool
     true
 }
 
-// Whether all that has to be named is, and what has to differ does, in the image that words and tags hold.
+// Whether all that has to be named is, and what has to differ does, in the image.
 pub fn named(image: Image) -> bool
     requires { Numbered image.words.now image.tags.now image.n }
     ensures { (m : Module) → Taped image.entry.words.now image.entry.tags.now image.entry.n m → result ≡ named_of m }

@@ -65,8 +65,8 @@ fn function(image: Image, t: &mut [u64; 256], at: usize, from: usize, end: usize
     function_in_range(image.words, image.tags, t, at, end) && initialised(image, locals, exprs, end)
 }
 
-// Whether `fine` holds of every record of section k, up to the first of which it does not: of where it starts, where its function starts, which is `head` words
-// into a table function or an entry point, and where it ends.
+// Whether `fine` holds of the function of every record of section k. It is given where the record starts, where its function starts, `head` words behind that, and
+// where the record ends; after the first of which it does not hold no more are asked.
 pub fn all_functions<S, F: Fn(&mut S, usize, usize, usize) -> bool>(
     image: Image,
     k: usize,

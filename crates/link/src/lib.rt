@@ -84,6 +84,7 @@ pub fn linked(image: &[u8], output: &mut [u8]) -> Result<u32, Refusal>
 }
 
 // The same as one number.
+// A number and no `Result`, since C reads one number.
 pub fn link(image: &[u8], output: &mut [u8]) -> u64
     ensures { LinkEnsures result output.old output.new image.now }
 {

@@ -33,6 +33,7 @@ fn number(r: Result<(FunctionHandle, FunctionHandle), Refusal>) -> u64
 }
 
 // The same, its answer as one number.
+// A number and no `Result`, since C reads one number.
 pub fn redirect(image: &mut [u8], original: u32, replacement: u32, omit: &[u32]) -> u64
     ensures { RedirectEnsures result image.old image.new original replacement omit.now }
 {

@@ -102,6 +102,7 @@ pub fn session_in(
 }
 
 // The same, in arrays of its own.
+// A number and no `Result`, since C reads one number.
 pub fn session(sources: &[u8], steps: &[u32], answers: &mut [u32], output: &mut [u8]) -> u64
     ensures { SessionEnsures sources.now steps.now answers.old output.old result answers.new output.new }
 {

@@ -6,7 +6,7 @@ ghost use Rattle.std.specs.Prelude.{◌≡◌, true, false, [], ◌∷◌, ℕ, 
 ghost use Rattle.model.specs.Module.{count_at};
 ghost use Rattle.model.specs.Callees.{callees};
 ghost use Rattle.model.specs.Redirect.{function};
-ghost use Rattle.model.specs.Session.{meets_ring, callees_of, import_function, map_function_handle, finish_with_entry_points};
+ghost use Rattle.model.specs.Session.{meets_ring, import_function, map_function_handle, finish_with_entry_points};
 ghost use Rattle.function_nesting.specs.Nested.{append_s, follow_s};
 ghost use Rattle.derive_state.specs.Source.{mod_of};
 ghost use Rattle.derive_state.specs.Held.{st_of};
@@ -24,8 +24,7 @@ use derive_lookup::known;
 use derive_rings::{entries_ring, follow_rings, import_rings};
 use derive_snapshot::{restore, save};
 use derive_state::{
-    Buckets, Derived, Log, LogTags, Maps, Sizes, Special, StackRows, Starts, clear_maps, empty,
-    number_of,
+    Buckets, Derived, Log, LogTags, Maps, Sizes, Special, StackRows, Starts, clear_maps, number_of,
 };
 use function_entry::enter_all;
 use function_localize::{append, follow};
@@ -39,7 +38,7 @@ fn empty_stacks(stacks: &mut StackRows)
 }
 
 // Appends function f; where it does not fit nothing has changed. One function for this and the next would take what lies between saving and undoing as a closure
-// that writes ten arrays, of which a contract would have to say all that these two say.
+// that writes seven arrays, of which a contract would have to say all that these two say.
 fn append_or_undo(
     image: Image,
     log: &mut Log,

@@ -2,7 +2,7 @@
 // nothing.
 #![tactic(auto)]
 
-ghost use Rattle.std.specs.Prelude.{◌≡◌, ◌≤◌};
+ghost use Rattle.std.specs.Prelude.{◌≡◌};
 ghost use Rattle.function_builder.specs.Stacks.{Stacks};
 ghost use Rattle.derive_session.specs.Valid.{session_of, ValidSession};
 ghost use Rattle.session_steps.specs.Numbers.{Decodes};
@@ -41,7 +41,7 @@ pub enum Operation {
     FinishWithEntryPoints,
 }
 
-// The operation by its number, as include/wuldgisp.h lists them.
+// An operation by its number, as include/wuldgisp.h lists them.
 impl TryFrom<u32> for Operation {
     type Error = Refusal;
 

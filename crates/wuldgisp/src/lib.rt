@@ -45,6 +45,7 @@ pub fn wuldgisp_link(image: &[u8], output: &mut [u8]) -> u64
 
 // wuldgisp_link in memory that the caller provides: eight arrays, 476 KiB in all. They may hold anything before and hold anything after, so they need no clearing,
 // neither at first nor between calls. The promise is that of wuldgisp_link, word for word; required are the lengths that the arrays' types say.
+// A number and no `Result`, since C reads one number.
 pub fn wuldgisp_link_in(
     image: &[u8],
     output: &mut [u8],
@@ -83,6 +84,7 @@ pub fn wuldgisp_session(
 
 // wuldgisp_session in memory that the caller provides, as for wuldgisp_link_in. The promise is that of wuldgisp_session, word for word; required are the lengths
 // that the arrays' types say.
+// A number and no `Result`, since C reads one number.
 pub fn wuldgisp_session_in(
     sources: &[u8],
     steps: &[u32],
