@@ -4,3 +4,4 @@ pub mod Seeking
 pub mod Bears
 pub mod Finds
 pub mod Firsts
+pub mod Counted

@@ -1,5 +1,5 @@
 -- What a state's names and functions have to be for its functions to be found by name, and what finding one answers.
-use Rattle.std.specs.Prelude.{◌≡◌, List, [], ℕ, suc, ◌+◌, ◌-◌, ◌≤◌, ◌<◌, length, get_or, take}
+use Rattle.std.specs.Prelude.{◌≡◌, List, [], ℕ, suc, ◌+◌, ◌-◌, ◌≤◌, ◌<◌, length, get_or, take, Option, None, Some}
 use Rattle.model.specs.Outcome.{Cells}
 use Rattle.model.specs.Redirect.{name_word}
 use Rattle.model.specs.References.{index_of}
@@ -35,6 +35,11 @@ pub record Heads (log logtags starts : List ℕ) (n : ℕ) : Type 0 where
 pub record Bearing (log logtags : List ℕ) (starts : List (List ℕ)) (e : Sizes) : Type 0 where
   pub names : Names log logtags (get_or starts 0 []) (get_or e.counts 0 0)
   pub functions : Heads log logtags (get_or starts 6 []) (get_or e.counts 6 0)
+
+-- a number plus 1, and 0 for none
+abbrev pub plus_one : Option ℕ → ℕ
+plus_one None = 0
+plus_one (Some h) = suc h
 
 -- the derived function that has the name of the source's function f: its number plus 1, or 0. Neither maps nor special types have a say in it
 pub record KnownEnsures (words : List ℕ) (n : ℕ) (log logtags : List ℕ) (starts : List (List ℕ)) (e : Sizes) (f r : ℕ) : Type 0 where

@@ -13,7 +13,7 @@ ghost use Rattle.derive_state.specs.Flats.{function_of};
 ghost use Rattle.derive_state.specs.Source.{mod_of, Source};
 ghost use Rattle.derive_state.specs.Refers.{target_bytes};
 ghost use Rattle.derive_state.specs.Held.{rec_at, recs_at, Readable};
-ghost use Rattle.derive_lookup.specs.Bearing.{Names, Went, Heads, Bearing, KnownEnsures};
+ghost use Rattle.derive_lookup.specs.Bearing.{Names, Went, Heads, Bearing, KnownEnsures, plus_one};
 
 use base_views::{FUNCTIONS, Image, NAMES};
 use derive_state::{Derived, Log, LogTags, alike_cell};
@@ -94,27 +94,27 @@ fn find_name_from(
     find_name(image, log, logtags, starts, n, at, end)
 }
 
-// The last of n functions whose first word is w: its number plus 1, or 0 (a number, not an Option: it is what `known` says).
-fn last(log: &Log, logtags: &LogTags, starts: &[u32; 512], n: usize, w: u32) -> u32
+// The last of n functions whose first word is w.
+fn last(log: &Log, logtags: &LogTags, starts: &[u32; 512], n: usize, w: u32) -> Option<u32>
     requires { Heads log.now logtags.now starts.now n }
-    ensures { (result ≡ last_of (map function_of (recs_at log.now logtags.now (take n starts.now))) 0 0 w) × (result ≤ n) }
+    ensures { (plus_one result ≡ last_of (map function_of (recs_at log.now logtags.now (take n starts.now))) 0 0 w) × (plus_one result ≤ n) }
 {
     for k in (0..n).rev() {
         let s = starts[k] as usize;
         if log[s + 1] == w {
-            return (k + 1) as u32;
+            return Some(k as u32);
         }
     }
-    0
+    None
 }
 
-// The last derived function that has the name of the source's function f: its number plus 1, or 0.
-pub fn known(image: Image, derived: &Derived, f: usize) -> u32
+// The last derived function that has the name of the source's function f.
+pub fn known(image: Image, derived: &Derived, f: usize) -> Option<u32>
     requires source { Source image.words.now image.tags.now image.n }
     requires n_value { named (mod_of image.words.now image.n) ≡ true }
     requires f_bound { f < count_at 6 image.words.now }
     requires bearing { Bearing derived.now.log.now derived.now.logtags.now derived.now.starts.now derived.now.sizes }
-    ensures { KnownEnsures image.entry.words.now image.entry.n derived.now.log.now derived.now.logtags.now derived.now.starts.now derived.now.sizes f result }
+    ensures { KnownEnsures image.entry.words.now image.entry.n derived.now.log.now derived.now.logtags.now derived.now.starts.now derived.now.sizes f (plus_one result) }
 {
     let s = image.record_at(FUNCTIONS, f);
     let k = image.words[s] as usize - 1;

@@ -37,7 +37,7 @@ fn unknown(image: Image, derived: &Derived, began: FunctionSet) -> FunctionSet
     for f in 0..functions {
         // kept: as one condition its proof's names hold the 0, and the must-fail edit is then refused for a name alone
         if began.has(f) {
-            let is_known = known(image, derived, f) != 0;
+            let is_known = known(image, derived, f).is_some();
             if is_known {
                 set.leave(f);
             }
@@ -113,7 +113,7 @@ fn calls_unknown(image: Image, derived: &Derived, at: usize, end: usize) -> bool
     for k in at..end {
         if image.tags[k] == CALLEE {
             let f = image.words[k] as usize;
-            if known(image, derived, f) == 0 {
+            if known(image, derived, f).is_none() {
                 return true;
             }
         }
@@ -160,7 +160,7 @@ pub fn follow_rings(image: Image, derived: &Derived, f: usize) -> bool
     requires f_bound { f < count_at 6 image.words.now }
     ensures { RingsEnsures (f ∷ []) image.entry.words.now image.entry.n derived.now.log.now derived.now.logtags.now derived.now.starts.now derived.now.sizes result }
 {
-    known(image, derived, f) == 0
+    known(image, derived, f).is_none()
         && calls_unknown_name(image, derived, f)
         && stuck(image, derived).has(f)
 }

@@ -74,7 +74,7 @@ pub fn carried(image: Image, derived: &Derived, exprmap: &ExprMap, s: u8, w: u32
     ensures { result ≡ through (went_of image.entry.words.now image.entry.n derived.now.log.now derived.now.logtags.now derived.now.starts.now derived.now.maps.now derived.now.sizes exprmap.now) s w }
 {
     if target_of(s) == FUNCTION {
-        return number_of(known(image, derived, w as usize));
+        return known(image, derived, w as usize).unwrap_or(0);
     }
     by_maps(derived.maps, exprmap, s, w)
 }

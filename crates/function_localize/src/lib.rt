@@ -309,7 +309,8 @@ pub fn follow(
             sizes: ends,
         },
         f,
-    ) != 0
+    )
+    .is_some()
     {
         return ends;
     }

@@ -243,7 +243,7 @@ pub fn map_function_handle(
         buckets,
         sizes: got,
     };
-    let v = number_of(known(image, &derived, f as usize));
+    let v = known(image, &derived, f as usize).unwrap_or(0);
     Ok(Imported {
         value: v,
         ends: got,

@@ -1,5 +1,5 @@
 use mathlib.Core.Path.{◌≡◌, refl}
-use Prim.Native.Nat.{◌+◌, ◌-◌}
+use Prim.Native.Nat.{suc, ◌-◌}
 use native.Mathlib.Omega.{arith}
 use Rattle.derive_lookup.proofs.Lasts.{begin, found, again, none, in_log}
 use Rattle.derive_lookup.proofs.last.Goals as goal
@@ -26,7 +26,7 @@ pub overflow_cast-result : goal.overflow_cast-result
 overflow_cast-result c = let i = c.loop-k.invariant in let h = c.requires in omega (arith, i.low, h.few)
 
 pub returns-then-log-s : goal.returns-then-log-s
-returns-then-log-s c = let q : c.loop-k.k - 1 + 1 ≡ c.loop-k.k = let h = c.loop-k-test.true in omega arith in rw q (found c.args.log.now c.args.logtags.now c.args.starts.now c.args.n c.args.w c.requires c.loop-k.k _ c.loop-k.invariant c.loop-k-test.true refl c.if-log-s.true)
+returns-then-log-s c = let q : suc (c.loop-k.k - 1) ≡ c.loop-k.k = let h = c.loop-k-test.true in omega arith in rw q (found c.args.log.now c.args.logtags.now c.args.starts.now c.args.n c.args.w c.requires c.loop-k.k _ c.loop-k.invariant c.loop-k-test.true refl c.if-log-s.true)
 
 pub loop-k-preserved : goal.loop-k-preserved
 loop-k-preserved c = again c.args.log.now c.args.logtags.now c.args.starts.now c.args.n c.args.w c.requires c.loop-k.k _ c.loop-k.invariant c.loop-k-test.true refl c.if-log-s.false

@@ -1,3 +1,5 @@
+use Rattle.derive_lookup.specs.Bearing.{plus_one}
+use Rattle.derive_lookup.proofs.Counted.{counted, not_counted}
 -- The cycle of calls: localize follows a callee with the same room, follow appends it with less, append localizes with the same.
 use mathlib.Core.Path.{refl, sym, ap, ◌∙◌}
 use mathlib.Core.Bool.{false≢true}
@@ -47,23 +49,23 @@ follow-returns-then-room-eq0 t c = let a = c.args in record { import_function_en
 pub follow-known-requires : goal.follow-known-requires
 follow-known-requires t c = let a = c.args in record { source = c.requires.ground.source; n_value = c.requires.ground.names; f_bound = c.requires.f_bound; bearing = bearing c.requires.valid_arrays }
 
-pub follow-returns-then-known-ne0 : goal.follow-returns-then-known-ne0
-follow-returns-then-known-ne0 t c = let a = c.args in record { import_function_ensures = follow_old a.image.words.now a.image.n a.offset a.f a.log.now a.logtags.now a.starts.now a.maps.now a.buckets.now a.stacks.now a.ends a.room c.if-room-eq0.false c.known.result c.known.ensures c.if-known-ne0.true c.requires.full_value.0 c.requires.full_value.1 c.requires.valid_arrays; places_after = λ _. c.requires.places_value }
+pub follow-returns-then-is_some : goal.follow-returns-then-is_some
+follow-returns-then-is_some t c = let a = c.args in record { import_function_ensures = follow_old a.image.words.now a.image.n a.offset a.f a.log.now a.logtags.now a.starts.now a.maps.now a.buckets.now a.stacks.now a.ends a.room c.if-room-eq0.false (plus_one c.known.result) c.known.ensures (counted c.known.result (sym c.is_some.ensures ∙ c.if-is_some.true)) c.requires.full_value.0 c.requires.full_value.1 c.requires.valid_arrays; places_after = λ _. c.requires.places_value }
 
 pub follow-overflow_sub-room : goal.follow-overflow_sub-room
 follow-overflow_sub-room t c = let h = c.if-room-eq0.false in omega arith
 
 pub follow-append-got-requires : goal.follow-append-got-requires
-follow-append-got-requires t c = let a = c.args in let h = c.if-room-eq0.false in let q = c.decreases in (omega arith, (c.requires.ground, (c.requires.f_bound, (follow-ready a.image.words.now a.image.n a.offset a.f a.log.now a.logtags.now a.starts.now a.maps.now a.buckets.now a.stacks.now a.ends a.room c.if-room-eq0.false c.known.result c.known.ensures c.if-known-ne0.false c.requires.nested_at, (c.requires.full_value, c.requires.valid_arrays)))))
+follow-append-got-requires t c = let a = c.args in let h = c.if-room-eq0.false in let q = c.decreases in (omega arith, (c.requires.ground, (c.requires.f_bound, (follow-ready a.image.words.now a.image.n a.offset a.f a.log.now a.logtags.now a.starts.now a.maps.now a.buckets.now a.stacks.now a.ends a.room c.if-room-eq0.false (plus_one c.known.result) c.known.ensures (not_counted c.known.result (sym c.is_some.ensures ∙ c.if-is_some.false)) c.requires.nested_at, (c.requires.full_value, c.requires.valid_arrays)))))
 
 pub follow-returns-then-got : goal.follow-returns-then-got
-follow-returns-then-got t c = let a = c.args in record { import_function_ensures = follow-append a.image.words.now a.image.n a.offset a.f a.log.now a.logtags.now a.starts.now a.maps.now a.buckets.now a.stacks.now a.ends a.room c.if-room-eq0.false c.known.result c.known.ensures c.if-known-ne0.false c.append-got.ensures; places_after = λ q. absurd (false≢true (sym q ∙ c.if-got.true)) }
+follow-returns-then-got t c = let a = c.args in record { import_function_ensures = follow-append a.image.words.now a.image.n a.offset a.f a.log.now a.logtags.now a.starts.now a.maps.now a.buckets.now a.stacks.now a.ends a.room c.if-room-eq0.false (plus_one c.known.result) c.known.ensures (not_counted c.known.result (sym c.is_some.ensures ∙ c.if-is_some.false)) c.append-got.ensures; places_after = λ q. absurd (false≢true (sym q ∙ c.if-got.true)) }
 
 pub follow-index_expressions-requires : goal.follow-index_expressions-requires
 follow-index_expressions-requires t c = c.requires.tags_len
 
 pub follow-returns : goal.follow-returns
-follow-returns t c = let a = c.args in record { import_function_ensures = follow-append a.image.words.now a.image.n a.offset a.f a.log.now a.logtags.now a.starts.now a.maps.now a.buckets.now a.stacks.now a.ends a.room c.if-room-eq0.false c.known.result c.known.ensures c.if-known-ne0.false c.append-got.ensures; places_after = λ _. c.index_expressions.ensures }
+follow-returns t c = let a = c.args in record { import_function_ensures = follow-append a.image.words.now a.image.n a.offset a.f a.log.now a.logtags.now a.starts.now a.maps.now a.buckets.now a.stacks.now a.ends a.room c.if-room-eq0.false (plus_one c.known.result) c.known.ensures (not_counted c.known.result (sym c.is_some.ensures ∙ c.if-is_some.false)) c.append-got.ensures; places_after = λ _. c.index_expressions.ensures }
 
 pub localize-index_parts-at-requires : goal.localize-index_parts-at-requires
 localize-index_parts-at-requires t c = c.requires.part
