@@ -35,7 +35,6 @@ fn unknown(image: Image, derived: &Derived, began: FunctionSet) -> FunctionSet
     let functions = count(image.words, FUNCTIONS);
     let mut set = began;
     for f in 0..functions {
-        // kept: as one condition its proof's names hold the 0, and the must-fail edit is then refused for a name alone
         if began.has(f) {
             let is_known = known(image, derived, f).is_some();
             if is_known {

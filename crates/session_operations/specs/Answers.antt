@@ -1,7 +1,8 @@
 -- What the results of operations on a session say: the number of what was imported, and the session after it. A refused operation leaves what was there.
-use Rattle.std.specs.Prelude.{ℕ, Bool, true, false, Result, Ok, Err, replicate}
+use Rattle.std.specs.Prelude.{ℕ, Bool, true, false, Result, Ok, Err}
 use Rattle.base_refusals.specs.declared.Refusal.{Refusal}
 use Rattle.derive_state.specs.declared.Sizes.{Sizes}
+use Rattle.derive_session.specs.Fresh.{Nothing}
 use Rattle.session_operations.specs.declared.Imported.{Imported}
 use Rattle.session_operations.specs.declared.Span.{Span}
 use Rattle.session_operations.specs.declared.Set.{Set}
@@ -47,5 +48,5 @@ set_after set (Ok bytes) = false
 set_after set (Err e) = set
 
 abbrev pub ends_after : Sizes → Result ℕ Refusal → Sizes
-ends_after ends (Ok bytes) = record { full = false; loglen = 0; counts = replicate 8 0; pairs = 0; exprtop = 0; bodytop = 0; made = 0 }
+ends_after ends (Ok bytes) = Nothing
 ends_after ends (Err e) = ends
