@@ -20,7 +20,7 @@ use Rattle.theory_finish.specs.Classes.{Not}
 use Rattle.theory_image.specs.Quiet.{each_map}
 use Rattle.derive_state.specs.Flats.{pairs_at, special_of}
 use Rattle.derive_state.specs.Held.{row, cell, rec_at, recs_at, table_of, recs_of, entries_of, st_of, Nameless, ValidArrays}
-use Rattle.derive_state.specs.declared.Sizes.{Sizes}
+use Rattle.derive_state.specs.Sizes.{Sizes}
 use Rattle.derive_state.proofs.State.{table_long, pairs_long}
 use Rattle.derive_state.proofs.Laws.{nameless-none, name_low, special_words}
 use Rattle.derive_sections.specs.Flat.{total, ordered, finished_words, cells_of}

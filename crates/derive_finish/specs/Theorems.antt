@@ -16,7 +16,7 @@ use Rattle.model.specs.Refusals.{UNKNOWN_RING}
 use Rattle.model.specs.Session.{Source, Session, Answer, answered, refused, with_source, meets_ring, write_if_fits, finish, callees_of, with_entries, finish_with_entry_points}
 use Rattle.model.specs.Steps.{writes}
 use Rattle.derive_state.specs.Held.{entries_of, st_of}
-use Rattle.derive_state.specs.declared.Sizes.{Sizes}
+use Rattle.derive_state.specs.Sizes.{Sizes}
 use Rattle.derive_state.proofs.Fresh.{kept-nothing}
 use Rattle.derive_state.proofs.Laws.{none-held}
 use Rattle.derive_finish.specs.Told.{told, Held, Ended}

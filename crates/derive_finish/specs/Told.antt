@@ -7,7 +7,7 @@ use Rattle.model.specs.Session.{Answer, answered, refused, write_if_fits}
 use Rattle.base_refusals.specs.declared.Refusal.{Refusal}
 use Rattle.base_refusals.specs.Numbers.{number_of}
 use Rattle.derive_state.specs.Held.{entries_of, st_of, ValidArrays}
-use Rattle.derive_state.specs.declared.Sizes.{Sizes}
+use Rattle.derive_state.specs.Sizes.{Sizes}
 
 -- the number of the refusal, 0 for none, and the count of bytes written, 0 where it is refused
 abbrev pub refusal_of : {A : Type 0} → Result A Refusal → ℕ

@@ -3,6 +3,7 @@
 
 ghost use Rattle.std.specs.Prelude.{◌≡◌, length};
 ghost use Rattle.derive_finish.specs.Told.{Held, Ended, refusal_of, bytes_in};
+ghost use Rattle.derive_state.specs.Sizes.{going};
 
 use base_refusals::Refusal;
 use derive_state::{Derived, Special};
@@ -23,9 +24,9 @@ pub fn finish(
     out: &mut [u32; 16384],
     output: &mut [u8],
 ) -> Result<usize, Refusal>
-    requires held { Held derived.now.log.now derived.now.logtags.now derived.now.starts.now derived.now.sizes }
+    requires held { Held derived.now.log.now derived.now.logtags.now derived.now.starts.now (going derived.now.sizes) }
     requires special_len { (length special.now ≡ 1027) × (length out.old ≡ 16384) }
-    ensures { Ended derived.now.log.now derived.now.logtags.now derived.now.starts.now special.now derived.now.sizes output.old (refusal_of result) (bytes_in result) output.new }
+    ensures { Ended derived.now.log.now derived.now.logtags.now derived.now.starts.now special.now (going derived.now.sizes) output.old (refusal_of result) (bytes_in result) output.new }
 {
     let counts = widened(derived.sizes.counts);
     let pairs = derived.sizes.pairs as usize;

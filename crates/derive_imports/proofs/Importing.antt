@@ -13,7 +13,7 @@ use Rattle.theory_records.specs.Well.{rank}
 use Rattle.derive_state.specs.Refers.{tab_of, went_r}
 use Rattle.derive_state.specs.Source.{src_of, Source, refers_to, number_of}
 use Rattle.derive_state.specs.Held.{cell, ValidArrays, ImportEnsures, carried_by}
-use Rattle.derive_state.specs.declared.Sizes.{Sizes}
+use Rattle.derive_state.specs.Sizes.{Sizes}
 use Rattle.derive_imports.proofs.Turns.{Turn, turn_in, turn_number, turn_falls, turn_full, turn-next, turn_skip, turn_settled, ends_in}
 
 module _ {words tags : List ℕ} {n o t k : ℕ} {log₀ logtags₀ : List ℕ} {starts₀ maps₀ : List (List ℕ)} {buckets₀ : List ℕ} {e₀ : Sizes} (src : Source words tags n) (q : (t < 6) × (k < count_at t words) × (e₀.full ≡ false)) (K₀ : ValidArrays log₀ logtags₀ starts₀ maps₀ buckets₀ e₀) (new : cell maps₀ t k ≡ 0) {begin end : ℕ} (hb : begin ≡ record_at t k words) (he : end ≡ record_end t k words) where

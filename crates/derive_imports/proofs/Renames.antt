@@ -32,7 +32,7 @@ use Rattle.derive_state.specs.Refers.{tab_of, went_r, target_bytes}
 use Rattle.derive_state.specs.Source.{mod_of, src_of, Source}
 use Rattle.derive_state.specs.Flats.{special_of}
 use Rattle.derive_state.specs.Held.{cell, recs_of, functions_of, maps_of, st_of, ValidArrays, ImportEnsures, Readable, carried_by}
-use Rattle.derive_state.specs.declared.Sizes.{Sizes}
+use Rattle.derive_state.specs.Sizes.{Sizes}
 use Rattle.derive_state.proofs.State.{code_low, six_ext, same_refl, marks_refl}
 use Rattle.derive_imports.proofs.Growth.{Grow, then, over_grow, grow_settle, grow_each, grow_T}
 use Rattle.derive_imports.proofs.Sources.{wf, inside, stretch, record_is, small_of}

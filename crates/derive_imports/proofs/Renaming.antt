@@ -13,7 +13,7 @@ use Rattle.model.specs.Imports.{import_t}
 use Rattle.derive_state.specs.Refers.{tab_of}
 use Rattle.derive_state.specs.Source.{src_of, Source, refers_to, number_of}
 use Rattle.derive_state.specs.Held.{st_of, ValidArrays, ImportEnsures}
-use Rattle.derive_state.specs.declared.Sizes.{Sizes}
+use Rattle.derive_state.specs.Sizes.{Sizes}
 use Rattle.derive_imports.proofs.Turns.{Turn, turn_in, turn_number, turn_full, turn-next, turn_skip}
 use Rattle.derive_imports.proofs.Renames.{G, rename-ends}
 

@@ -28,7 +28,7 @@ use Rattle.derive_state.specs.Refers.{code_p, tab_of, went_r}
 use Rattle.derive_state.specs.Source.{src_of, Source, refers_to, number_of}
 use Rattle.derive_state.specs.Held.{cell, table_of, maps_of, st_of, size_r, ValidArrays, Same, Beside, ImportEnsures, carried_by}
 use Rattle.derive_state.specs.Marks.{Marks}
-use Rattle.derive_state.specs.declared.Sizes.{Sizes}
+use Rattle.derive_state.specs.Sizes.{Sizes}
 use Rattle.derive_state.proofs.Passes.{all_here, all-next}
 use Rattle.derive_state.proofs.State.{code_tab, tab_code, code_low, same_refl, same_then, marks_refl, marks_then, table_stays}
 use Rattle.derive_imports.proofs.Steps.{step_is, hit}

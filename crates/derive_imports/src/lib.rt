@@ -9,13 +9,13 @@ ghost use Rattle.model.specs.Tables.{types};
 ghost use Rattle.model.specs.Imports.{import_t, renamed};
 ghost use Rattle.derive_state.specs.Refers.{tab_of};
 ghost use Rattle.derive_state.specs.Source.{src_of, Source, refers_to, number_of};
-ghost use Rattle.derive_state.specs.Held.{ValidArrays, ImportEnsures};
+ghost use Rattle.derive_state.specs.Held.{Valid, Imports};
 
 use base_handles::TypeHandle;
 use base_views::{Image, NAMES, TYPES};
 use derive_intern::intern;
 use derive_state::{
-    Buckets, Log, LogTags, Maps, NOTHING, OPTIONAL, Sizes, Starts, number_of, target_of,
+    DerivedMut, Full, NOTHING, OPTIONAL, ShaderSource, Sizes, number_of, target_of,
 };
 
 // What a word refers to: the number of a table, or NOTHING, and a number in that table.
@@ -57,101 +57,72 @@ pub fn refers_to(s: u8, w: u32) -> Reference
 // Imports a record of a table: what it refers to first, in field order; then the record is carried through the maps, and interned among those of its table. A
 // number that is mapped already is not imported again.
 pub fn import(
-    image: Image,
-    log: &mut Log,
-    logtags: &mut LogTags,
-    starts: &mut Starts,
-    maps: &mut Maps,
-    buckets: &mut Buckets,
+    source: ShaderSource,
+    derived: &mut DerivedMut,
     ends: Sizes,
-    offset: u32,
     table: usize,
     number: u32,
-) -> Sizes
-    requires source { Source image.words.now image.tags.now image.n }
-    requires number_bound { (table < 6) × (number < count_at table image.words.now) × (ends.full ≡ false) }
-    requires valid_arrays { ValidArrays log.old logtags.old starts.old maps.old buckets.old ends }
-    ensures { ImportEnsures image.entry.words.now (import_t offset (src_of image.entry.words.now image.entry.n) (tab_of table) number) log.old logtags.old starts.old maps.old buckets.old ends result log.new logtags.new starts.new maps.new buckets.new }
+) -> Result<Sizes, Full>
+    requires source { Source source.image.words.now source.image.tags.now source.image.n }
+    requires number_bound { (table < 6) × (number < count_at table source.image.words.now) }
+    requires valid_arrays { Valid derived.old ends }
+    ensures { Imports source.entry.image.words.now (import_t source.entry.offset (src_of source.entry.image.words.now source.entry.image.n) (tab_of table) number) derived.old ends result derived.new }
 {
     let k = number as usize;
-    if maps[table][k] != 0 {
-        return ends;
+    if derived.maps[table][k] != 0 {
+        return Ok(ends);
     }
-    let at = image.record_at(table, k);
-    let end = image.record_end(table, k);
+    let at = source.image.record_at(table, k);
+    let end = source.image.record_end(table, k);
     let mut e = ends;
     for j in at..end {
-        let r = refers_to(image.tags[j], image.words[j]);
+        let r = refers_to(source.image.tags[j], source.image.words[j]);
         if r.table < NOTHING {
-            e = import(
-                image, log, logtags, starts, maps, buckets, e, offset, r.table, r.number,
-            );
-            if e.full {
-                return e;
-            }
+            e = import(source, derived, e, r.table, r.number)?;
         }
     }
-    intern(
-        image, log, logtags, starts, maps, buckets, e, offset, table, k, at, end,
-    )
+    intern(source, derived, e, table, k, at, end)
 }
 
 // Imports type h under the name with the given number, as from a source in which it has that name.
 pub fn rename_type(
-    image: Image,
-    log: &mut Log,
-    logtags: &mut LogTags,
-    starts: &mut Starts,
-    maps: &mut Maps,
-    buckets: &mut Buckets,
+    source: ShaderSource,
+    derived: &mut DerivedMut,
     ends: Sizes,
-    offset: u32,
     h: TypeHandle,
     name: u32,
-) -> Sizes
-    requires source { Source image.words.now image.tags.now image.n }
-    requires h_bound { (h.0 < count_at 1 image.words.now) × (name < count_at 0 image.words.now) × (ends.full ≡ false) }
-    requires valid_arrays { ValidArrays log.old logtags.old starts.old maps.old buckets.old ends }
-    ensures { ImportEnsures image.entry.words.now (import_t offset (renamed (src_of image.entry.words.now image.entry.n) h.0 name) types h.0) log.old logtags.old starts.old maps.old buckets.old ends result log.new logtags.new starts.new maps.new buckets.new }
+) -> Result<Sizes, Full>
+    requires source { Source source.image.words.now source.image.tags.now source.image.n }
+    requires h_bound { (h.0 < count_at 1 source.image.words.now) × (name < count_at 0 source.image.words.now) }
+    requires valid_arrays { Valid derived.old ends }
+    ensures { Imports source.entry.image.words.now (import_t source.entry.offset (renamed (src_of source.entry.image.words.now source.entry.image.n) h.0 name) types h.0) derived.old ends result derived.new }
 {
     let k = h.0 as usize;
-    if maps[TYPES][k] != 0 {
-        return ends;
+    if derived.maps[TYPES][k] != 0 {
+        return Ok(ends);
     }
-    let at = image.record_at(TYPES, k);
-    let end = image.record_end(TYPES, k);
-    let mut e = import(
-        image, log, logtags, starts, maps, buckets, ends, offset, NAMES, name,
-    );
-    if e.full {
-        return e;
-    }
+    let at = source.image.record_at(TYPES, k);
+    let end = source.image.record_end(TYPES, k);
+    let mut e = import(source, derived, ends, NAMES, name)?;
     for j in at + 1..end {
-        let r = refers_to(image.tags[j], image.words[j]);
+        let r = refers_to(source.image.tags[j], source.image.words[j]);
         if r.table < NOTHING {
-            e = import(
-                image, log, logtags, starts, maps, buckets, e, offset, r.table, r.number,
-            );
-            if e.full {
-                return e;
-            }
+            e = import(source, derived, e, r.table, r.number)?;
         }
     }
-    let mut view = *image.words;
+    let mut view = *source.image.words;
     view[at] = name + 1;
     intern(
-        Image {
-            words: &view,
-            tags: image.tags,
-            n: image.n,
+        ShaderSource {
+            image: Image {
+                words: &view,
+                tags: source.image.tags,
+                n: source.image.n,
+            },
+            offset: source.offset,
         },
-        log,
-        logtags,
-        starts,
-        maps,
-        buckets,
+        derived,
         e,
-        offset,
         TYPES,
         k,
         at,

@@ -8,13 +8,14 @@ ghost use Rattle.model.specs.Between.{between};
 ghost use Rattle.model.specs.References.{shift, index_of, alike as alikeOf};
 ghost use Rattle.model.specs.Imports.{intern as settled};
 ghost use Rattle.derive_state.specs.Refers.{tab_of, went_r, target_bytes};
+ghost use Rattle.derive_state.specs.Sizes.{going};
 ghost use Rattle.derive_state.specs.Marks.{MARKS, place_r, Left};
-ghost use Rattle.derive_state.specs.Held.{row, cell, rec_at, recs_at, ValidArrays, ImportEnsures, Readable, Nameless, carried_by};
+ghost use Rattle.derive_state.specs.Held.{row, cell, rec_at, recs_at, ValidArrays, Valid, Imports, Readable, Nameless, carried_by};
 
 use base_views::Image;
 use derive_state::{
-    Buckets, Derived, Log, LogTags, Maps, Sizes, Starts, alike, alike_cell, bucket_of, carried,
-    mark_full, with_record, words_left, write,
+    Buckets, Derived, DerivedMut, Full, ShaderSource, Sizes, alike, alike_cell, bucket_of, carried,
+    with_record, words_left, write,
 };
 
 // Whether the record at s is what the source's words from `at` to `end` become, ignoring spans: the same as `alike`, but the last word is compared first, since
@@ -75,7 +76,7 @@ fn find_by_bucket(
 ) -> Option<usize>
     requires readable { Readable image.words.now image.tags.now target_bytes at end }
     requires t_bound { (t < 6) × (p ≡ place_r t (carried_by (went_r derived.now.maps.now) image.tags.now image.words.now at end)) × (p < MARKS) }
-    requires valid_arrays { ValidArrays derived.now.log.now derived.now.logtags.now derived.now.starts.now derived.now.maps.now derived.now.buckets.now derived.now.sizes }
+    requires valid_arrays { ValidArrays derived.now.log.now derived.now.logtags.now derived.now.starts.now derived.now.maps.now derived.now.buckets.now (going derived.now.sizes) }
     ensures { MatchOption result (get_or derived.now.sizes.counts t 0 ≡ index_of (recs_at derived.now.log.now derived.now.logtags.now (take (get_or derived.now.sizes.counts t 0) (row derived.now.starts.now t))) (carried_by (went_r derived.now.maps.now) image.entry.tags.now image.entry.words.now at end)) (λ j. (j < get_or derived.now.sizes.counts t 0) × (j ≡ index_of (recs_at derived.now.log.now derived.now.logtags.now (take (get_or derived.now.sizes.counts t 0) (row derived.now.starts.now t))) (carried_by (went_r derived.now.maps.now) image.entry.tags.now image.entry.words.now at end))) }
 {
     let n = derived.sizes.counts[t] as usize;
@@ -99,57 +100,46 @@ fn find_by_bucket(
 
 // Maps number k of table t to the record that the source's words from `at` to `end` become: an equal one that is found, or a new one.
 pub fn intern(
-    image: Image,
-    log: &mut Log,
-    logtags: &mut LogTags,
-    starts: &mut Starts,
-    maps: &mut Maps,
-    buckets: &mut Buckets,
+    source: ShaderSource,
+    derived: &mut DerivedMut,
     ends: Sizes,
-    offset: u32,
     t: usize,
     k: usize,
     at: usize,
     end: usize,
-) -> Sizes
-    requires readable { Readable image.words.now image.tags.now target_bytes at end }
-    requires t_bound { (t < 6) × (k < count_at t image.words.now) × (k < 512) × (ends.full ≡ false) }
-    requires nameless { t ≡ 0 → Nameless (between image.tags.now image.words.now at end) }
-    requires valid_arrays { ValidArrays log.old logtags.old starts.old maps.old buckets.old ends }
-    ensures { ImportEnsures image.entry.words.now (settled (tab_of t) k (shift (carried_by (went_r maps.old) image.entry.tags.now image.entry.words.now at end) offset false)) log.old logtags.old starts.old maps.old buckets.old ends result log.new logtags.new starts.new maps.new buckets.new }
+) -> Result<Sizes, Full>
+    requires readable { Readable source.image.words.now source.image.tags.now target_bytes at end }
+    requires t_bound { (t < 6) × (k < count_at t source.image.words.now) × (k < 512) }
+    requires nameless { t ≡ 0 → Nameless (between source.image.tags.now source.image.words.now at end) }
+    requires valid_arrays { Valid derived.old ends }
+    ensures { Imports source.entry.image.words.now (settled (tab_of t) k (shift (carried_by (went_r derived.old.maps.now) source.entry.image.tags.now source.entry.image.words.now at end) source.entry.offset false)) derived.old ends result derived.new }
 {
     let n = ends.counts[t] as usize;
     let loglen = ends.loglen as usize;
-    let p = bucket_of(image, maps, at, end, t);
-    let found = find_by_bucket(
-        image,
-        &Derived {
-            log,
-            logtags,
-            starts,
-            maps,
-            buckets,
-            sizes: ends,
-        },
-        at,
-        end,
-        t,
-        p,
-    );
+    let p = bucket_of(source.image, derived.maps, at, end, t);
+    let found = find_by_bucket(source.image, &derived.view(ends), at, end, t, p);
     if let Some(j) = found {
-        maps[t][k] = (j + 1) as u32;
-        return ends;
+        derived.maps[t][k] = (j + 1) as u32;
+        return Ok(ends);
     }
     if n == 512 {
-        return mark_full(ends);
+        return Err(Full);
     }
     if words_left(ends) < 1 + (end - at) {
-        return mark_full(ends);
+        return Err(Full);
     }
-    log[loglen] = (end - at) as u32;
-    write(image, log, logtags, maps, at, end, loglen + 1, offset);
-    starts[t][n] = loglen as u32;
-    maps[t][k] = (n + 1) as u32;
-    set_bucket(buckets, p, n);
-    with_record(ends, t, 1 + (end - at))
+    derived.log[loglen] = (end - at) as u32;
+    write(
+        source,
+        derived.log,
+        derived.logtags,
+        derived.maps,
+        at,
+        end,
+        loglen + 1,
+    );
+    derived.starts[t][n] = loglen as u32;
+    derived.maps[t][k] = (n + 1) as u32;
+    set_bucket(derived.buckets, p, n);
+    Ok(with_record(ends, t, 1 + (end - at)))
 }

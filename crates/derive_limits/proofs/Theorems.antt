@@ -24,7 +24,7 @@ use Rattle.theory_sessions.specs.Ending.{parts, three}
 use Rattle.theory_sessions.specs.Operating.{GoodBy, Good, good_holds}
 use Rattle.derive_state.specs.Flats.{function_of, entry_of, special_of}
 use Rattle.derive_state.specs.Held.{table_of, recs_of, functions_of, entries_of, st_of, size_r, Over, long, many, crowd, keys, ValidArrays}
-use Rattle.derive_state.specs.declared.Sizes.{Sizes}
+use Rattle.derive_state.specs.Sizes.{Sizes}
 use Rattle.derive_state.proofs.State.{code_low, table_long, pairs_long, words_are}
 use Rattle.derive_state.proofs.Laws.{none-held}
 use Rattle.derive_limits.specs.Full.{Full, over, entries}

@@ -15,7 +15,7 @@ use Rattle.theory_image.specs.Readers.{read_well_function}
 use Rattle.theory_image.specs.Betweens.{between_next}
 use Rattle.derive_state.specs.Flats.{function_in, function_of}
 use Rattle.derive_state.specs.Held.{cell, rec_at, table_of, functions_of, ValidArrays}
-use Rattle.derive_state.specs.declared.Sizes.{Sizes}
+use Rattle.derive_state.specs.Sizes.{Sizes}
 use Rattle.derive_state.proofs.Passes.{length-between}
 use Rattle.derive_state.proofs.State.{table_at, table_long}
 use Rattle.derive_lookup.specs.Bearing.{Bearing}

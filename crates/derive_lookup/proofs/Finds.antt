@@ -30,7 +30,7 @@ use Rattle.derive_state.specs.Refers.{tab_of, target_bytes}
 use Rattle.derive_state.specs.Flats.{function_of}
 use Rattle.derive_state.specs.Source.{mod_of, src_of, Source}
 use Rattle.derive_state.specs.Held.{recs_at, recs_of, functions_of, st_of, Readable}
-use Rattle.derive_state.specs.declared.Sizes.{Sizes}
+use Rattle.derive_state.specs.Sizes.{Sizes}
 use Rattle.derive_imports.proofs.Sources.{count_few, record_is, readable}
 use Rattle.derive_lookup.specs.Bearing.{KnownEnsures}
 

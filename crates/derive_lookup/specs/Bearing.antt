@@ -7,7 +7,7 @@ use Rattle.model.specs.Bodies.{known}
 use Rattle.derive_state.specs.Flats.{function_of}
 use Rattle.derive_state.specs.Source.{mod_of}
 use Rattle.derive_state.specs.Held.{rec_at, recs_at, Apart, st_of}
-use Rattle.derive_state.specs.declared.Sizes.{Sizes}
+use Rattle.derive_state.specs.Sizes.{Sizes}
 
 -- records that start at the first n of these places lie in the log, and no two are alike
 pub record Names (log logtags starts : List ℕ) (n : ℕ) : Type 0 where

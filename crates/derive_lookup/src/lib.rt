@@ -14,6 +14,7 @@ ghost use Rattle.derive_state.specs.Source.{mod_of, Source};
 ghost use Rattle.derive_state.specs.Refers.{target_bytes};
 ghost use Rattle.derive_state.specs.Held.{rec_at, recs_at, Readable};
 ghost use Rattle.derive_lookup.specs.Bearing.{Names, Went, Heads, Bearing, KnownEnsures, plus_one};
+ghost use Rattle.derive_state.specs.Sizes.{going};
 
 use base_views::{FUNCTIONS, Image, NAMES};
 use derive_state::{Derived, Log, LogTags, alike_cell};
@@ -113,8 +114,8 @@ pub fn known(image: Image, derived: &Derived, f: usize) -> Option<u32>
     requires source { Source image.words.now image.tags.now image.n }
     requires n_value { named (mod_of image.words.now image.n) ≡ true }
     requires f_bound { f < count_at 6 image.words.now }
-    requires bearing { Bearing derived.now.log.now derived.now.logtags.now derived.now.starts.now derived.now.sizes }
-    ensures { KnownEnsures image.entry.words.now image.entry.n derived.now.log.now derived.now.logtags.now derived.now.starts.now derived.now.sizes f (plus_one result) }
+    requires bearing { Bearing derived.now.log.now derived.now.logtags.now derived.now.starts.now (going derived.now.sizes) }
+    ensures { KnownEnsures image.entry.words.now image.entry.n derived.now.log.now derived.now.logtags.now derived.now.starts.now (going derived.now.sizes) f (plus_one result) }
 {
     let s = image.record_at(FUNCTIONS, f);
     let k = image.words[s] as usize - 1;

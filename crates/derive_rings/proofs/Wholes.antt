@@ -29,7 +29,7 @@ use Rattle.order_callees.proofs.Numbered.{passed-known}
 use Rattle.theory_order.specs.Same.{rounds_ext}
 use Rattle.derive_state.specs.Source.{mod_of, Source}
 use Rattle.derive_state.specs.Held.{st_of}
-use Rattle.derive_state.specs.declared.Sizes.{Sizes}
+use Rattle.derive_state.specs.Sizes.{Sizes}
 use Rattle.derive_imports.proofs.Sources.{mod_is}
 use Rattle.derive_lookup.specs.Bearing.{KnownEnsures}
 use Rattle.derive_rings.specs.Rings.{unknown_by, Unknowns, Stuck, RingsEnsures}

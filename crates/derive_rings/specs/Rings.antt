@@ -9,7 +9,7 @@ use Rattle.order_ranks.specs.Marks.{members, Below}
 use Rattle.order_callees.specs.Gathering.{picked}
 use Rattle.derive_state.specs.Source.{mod_of}
 use Rattle.derive_state.specs.Held.{st_of}
-use Rattle.derive_state.specs.declared.Sizes.{Sizes}
+use Rattle.derive_state.specs.Sizes.{Sizes}
 
 -- unknown names, with no maps and no special types
 abbrev pub unknown_by : List ℕ → ℕ → List ℕ → List ℕ → List (List ℕ) → Sizes → ℕ → Bool

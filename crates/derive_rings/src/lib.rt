@@ -16,6 +16,7 @@ ghost use Rattle.order_callees.specs.Gathering.{picked, Gathered};
 ghost use Rattle.derive_state.specs.Source.{mod_of, Source};
 ghost use Rattle.derive_lookup.specs.Bearing.{Bearing};
 ghost use Rattle.derive_rings.specs.Rings.{unknown_by, Unknowns, Stuck, RingsEnsures, Scannable};
+ghost use Rattle.derive_state.specs.Sizes.{going};
 
 use base_classes::CALLEE;
 use base_views::{ENTRIES, FUNCTIONS, Image, count};
@@ -28,9 +29,9 @@ use order_ranks::{FunctionSet, clear, left};
 fn unknown(image: Image, derived: &Derived, began: FunctionSet) -> FunctionSet
     requires source { Source image.words.now image.tags.now image.n }
     requires n_value { named (mod_of image.words.now image.n) ≡ true }
-    requires bearing { Bearing derived.now.log.now derived.now.logtags.now derived.now.starts.now derived.now.sizes }
+    requires bearing { Bearing derived.now.log.now derived.now.logtags.now derived.now.starts.now (going derived.now.sizes) }
     requires began_len { Below (count_at 6 image.words.now) began.0 }
-    ensures { Unknowns image.entry.words.now image.entry.n derived.now.log.now derived.now.logtags.now derived.now.starts.now derived.now.sizes began.0 result.0 }
+    ensures { Unknowns image.entry.words.now image.entry.n derived.now.log.now derived.now.logtags.now derived.now.starts.now (going derived.now.sizes) began.0 result.0 }
 {
     let functions = count(image.words, FUNCTIONS);
     let mut set = began;
@@ -49,9 +50,9 @@ fn unknown(image: Image, derived: &Derived, began: FunctionSet) -> FunctionSet
 pub fn unknown_in_ring(image: Image, derived: &Derived, callees: &[FunctionSet; 256]) -> FunctionSet
     requires source { Source image.words.now image.tags.now image.n }
     requires n_value { named (mod_of image.words.now image.n) ≡ true }
-    requires bearing { Bearing derived.now.log.now derived.now.logtags.now derived.now.starts.now derived.now.sizes }
+    requires bearing { Bearing derived.now.log.now derived.now.logtags.now derived.now.starts.now (going derived.now.sizes) }
     requires gathered { Gathered image.words.now image.tags.now image.n callees.now }
-    ensures { Stuck image.entry.words.now image.entry.n derived.now.log.now derived.now.logtags.now derived.now.starts.now derived.now.sizes result.0 }
+    ensures { Stuck image.entry.words.now image.entry.n derived.now.log.now derived.now.logtags.now derived.now.starts.now (going derived.now.sizes) result.0 }
 {
     let functions = count(image.words, FUNCTIONS);
     let all = FunctionSet::first(functions);
@@ -64,8 +65,8 @@ pub fn unknown_in_ring(image: Image, derived: &Derived, callees: &[FunctionSet; 
 fn stuck(image: Image, derived: &Derived) -> FunctionSet
     requires source { Source image.words.now image.tags.now image.n }
     requires n_value { named (mod_of image.words.now image.n) ≡ true }
-    requires bearing { Bearing derived.now.log.now derived.now.logtags.now derived.now.starts.now derived.now.sizes }
-    ensures { Stuck image.entry.words.now image.entry.n derived.now.log.now derived.now.logtags.now derived.now.starts.now derived.now.sizes result.0 }
+    requires bearing { Bearing derived.now.log.now derived.now.logtags.now derived.now.starts.now (going derived.now.sizes) }
+    ensures { Stuck image.entry.words.now image.entry.n derived.now.log.now derived.now.logtags.now derived.now.starts.now (going derived.now.sizes) result.0 }
 {
     let mut callees = clear();
     gather_requirements(image, &mut callees);
@@ -105,9 +106,9 @@ fn entries_call(image: Image, set: &FunctionSet) -> bool
 fn calls_unknown(image: Image, derived: &Derived, at: usize, end: usize) -> bool
     requires source { Source image.words.now image.tags.now image.n }
     requires n_value { named (mod_of image.words.now image.n) ≡ true }
-    requires bearing { Bearing derived.now.log.now derived.now.logtags.now derived.now.starts.now derived.now.sizes }
+    requires bearing { Bearing derived.now.log.now derived.now.logtags.now derived.now.starts.now (going derived.now.sizes) }
     requires scannable { Scannable image.words.now image.tags.now at end (count_at 6 image.words.now) }
-    ensures { result ≡ any (picked image.entry.words.now image.entry.tags.now at end) (unknown_by image.entry.words.now image.entry.n derived.now.log.now derived.now.logtags.now derived.now.starts.now derived.now.sizes) }
+    ensures { result ≡ any (picked image.entry.words.now image.entry.tags.now at end) (unknown_by image.entry.words.now image.entry.n derived.now.log.now derived.now.logtags.now derived.now.starts.now (going derived.now.sizes)) }
 {
     for k in at..end {
         if image.tags[k] == CALLEE {
@@ -124,9 +125,9 @@ fn calls_unknown(image: Image, derived: &Derived, at: usize, end: usize) -> bool
 fn calls_unknown_name(image: Image, derived: &Derived, f: usize) -> bool
     requires source { Source image.words.now image.tags.now image.n }
     requires n_value { named (mod_of image.words.now image.n) ≡ true }
-    requires bearing { Bearing derived.now.log.now derived.now.logtags.now derived.now.starts.now derived.now.sizes }
+    requires bearing { Bearing derived.now.log.now derived.now.logtags.now derived.now.starts.now (going derived.now.sizes) }
     requires f_bound { f < count_at 6 image.words.now }
-    ensures { result ≡ any (callees_of (function (mod_of image.entry.words.now image.entry.n) f)) (unknown_by image.entry.words.now image.entry.n derived.now.log.now derived.now.logtags.now derived.now.starts.now derived.now.sizes) }
+    ensures { result ≡ any (callees_of (function (mod_of image.entry.words.now image.entry.n) f)) (unknown_by image.entry.words.now image.entry.n derived.now.log.now derived.now.logtags.now derived.now.starts.now (going derived.now.sizes)) }
 {
     let at = image.record_at(FUNCTIONS, f);
     let end = image.record_end(FUNCTIONS, f);
@@ -137,9 +138,9 @@ fn calls_unknown_name(image: Image, derived: &Derived, f: usize) -> bool
 pub fn import_rings(image: Image, derived: &Derived, f: usize) -> bool
     requires source { Source image.words.now image.tags.now image.n }
     requires n_value { named (mod_of image.words.now image.n) ≡ true }
-    requires bearing { Bearing derived.now.log.now derived.now.logtags.now derived.now.starts.now derived.now.sizes }
+    requires bearing { Bearing derived.now.log.now derived.now.logtags.now derived.now.starts.now (going derived.now.sizes) }
     requires f_bound { f < count_at 6 image.words.now }
-    ensures { RingsEnsures (f ∷ callees_of (function (mod_of image.entry.words.now image.entry.n) f)) image.entry.words.now image.entry.n derived.now.log.now derived.now.logtags.now derived.now.starts.now derived.now.sizes result }
+    ensures { RingsEnsures (f ∷ callees_of (function (mod_of image.entry.words.now image.entry.n) f)) image.entry.words.now image.entry.n derived.now.log.now derived.now.logtags.now derived.now.starts.now (going derived.now.sizes) result }
 {
     // returns early: what is left uses the calls twice, and as an operand of `&&` it would be a block
     if !calls_unknown_name(image, derived, f) {
@@ -155,9 +156,9 @@ pub fn import_rings(image: Image, derived: &Derived, f: usize) -> bool
 pub fn follow_rings(image: Image, derived: &Derived, f: usize) -> bool
     requires source { Source image.words.now image.tags.now image.n }
     requires n_value { named (mod_of image.words.now image.n) ≡ true }
-    requires bearing { Bearing derived.now.log.now derived.now.logtags.now derived.now.starts.now derived.now.sizes }
+    requires bearing { Bearing derived.now.log.now derived.now.logtags.now derived.now.starts.now (going derived.now.sizes) }
     requires f_bound { f < count_at 6 image.words.now }
-    ensures { RingsEnsures (f ∷ []) image.entry.words.now image.entry.n derived.now.log.now derived.now.logtags.now derived.now.starts.now derived.now.sizes result }
+    ensures { RingsEnsures (f ∷ []) image.entry.words.now image.entry.n derived.now.log.now derived.now.logtags.now derived.now.starts.now (going derived.now.sizes) result }
 {
     known(image, derived, f).is_none()
         && calls_unknown_name(image, derived, f)
@@ -168,8 +169,8 @@ pub fn follow_rings(image: Image, derived: &Derived, f: usize) -> bool
 fn entries_lead(image: Image, derived: &Derived) -> bool
     requires source { Source image.words.now image.tags.now image.n }
     requires n_value { named (mod_of image.words.now image.n) ≡ true }
-    requires bearing { Bearing derived.now.log.now derived.now.logtags.now derived.now.starts.now derived.now.sizes }
-    ensures { result ≡ any (calleesOfAll (mod_of image.entry.words.now image.entry.n).entries) (unknown_by image.entry.words.now image.entry.n derived.now.log.now derived.now.logtags.now derived.now.starts.now derived.now.sizes) }
+    requires bearing { Bearing derived.now.log.now derived.now.logtags.now derived.now.starts.now (going derived.now.sizes) }
+    ensures { result ≡ any (calleesOfAll (mod_of image.entry.words.now image.entry.n).entries) (unknown_by image.entry.words.now image.entry.n derived.now.log.now derived.now.logtags.now derived.now.starts.now (going derived.now.sizes)) }
 {
     let entries = count(image.words, ENTRIES);
     for e in 0..entries {
@@ -186,8 +187,8 @@ fn entries_lead(image: Image, derived: &Derived) -> bool
 pub fn entries_ring(image: Image, derived: &Derived) -> bool
     requires source { Source image.words.now image.tags.now image.n }
     requires n_value { named (mod_of image.words.now image.n) ≡ true }
-    requires bearing { Bearing derived.now.log.now derived.now.logtags.now derived.now.starts.now derived.now.sizes }
-    ensures { RingsEnsures (calleesOfAll (mod_of image.entry.words.now image.entry.n).entries) image.entry.words.now image.entry.n derived.now.log.now derived.now.logtags.now derived.now.starts.now derived.now.sizes result }
+    requires bearing { Bearing derived.now.log.now derived.now.logtags.now derived.now.starts.now (going derived.now.sizes) }
+    ensures { RingsEnsures (calleesOfAll (mod_of image.entry.words.now image.entry.n).entries) image.entry.words.now image.entry.n derived.now.log.now derived.now.logtags.now derived.now.starts.now (going derived.now.sizes) result }
 {
     entries_lead(image, derived) && entries_call(image, &stuck(image, derived))
 }

@@ -4,7 +4,7 @@ use Rattle.model.specs.Module.{count_at}
 use Rattle.model.specs.Tables.{map_at}
 use Rattle.derive_state.specs.Refers.{tab_of}
 use Rattle.derive_state.specs.Held.{st_of}
-use Rattle.derive_state.specs.declared.Sizes.{Sizes}
+use Rattle.derive_state.specs.Sizes.{Sizes}
 
 -- r is the derived number of number h of table t, in every state that has these maps
 pub record MappedToEnsures (maps : List (List ℕ)) (t h r : ℕ) : Type 0 where

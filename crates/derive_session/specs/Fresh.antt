@@ -16,7 +16,7 @@ use Rattle.derive_limits.proofs.Reached.{reached}
 use Rattle.derive_state.specs.Refers.{target_bytes}
 use Rattle.derive_state.specs.Marks.{MARKS}
 use Rattle.derive_state.specs.Held.{row}
-use Rattle.derive_state.specs.declared.Sizes.{Sizes}
+use Rattle.derive_state.specs.Sizes.{Sizes}
 use Rattle.derive_state.proofs.Fresh.{rows_at, kept-nothing, st_nothing}
 use Rattle.derive_session.specs.Valid.{session_of, ValidSession}
 

@@ -10,7 +10,7 @@ use Rattle.derive_limits.specs.Reached.{Reached}
 use Rattle.derive_state.specs.Refers.{target_bytes}
 use Rattle.derive_state.specs.Source.{mod_of}
 use Rattle.derive_state.specs.Held.{st_of, ValidArrays, Specials}
-use Rattle.derive_state.specs.declared.Sizes.{Sizes}
+use Rattle.derive_state.specs.Sizes.{Sizes}
 
 -- with the source of the first n words and the offset o, or without one
 unfoldable pub session_of : Bool → ℕ → ℕ → List ℕ → List ℕ → List ℕ → List (List ℕ) → List (List ℕ) → List ℕ → Sizes → Session

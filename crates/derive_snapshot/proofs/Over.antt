@@ -1,10 +1,14 @@
 -- An operation that restores what was saved where it does not fit leaves the state as it was there.
-use mathlib.Core.Path.{◌∙◌}
+use mathlib.Core.Path.{◌≡◌, ◌∙◌, refl}
 use mathlib.Core.List.{List}
+use mathlib.Core.Bool.{true, false≢true}
 use Prim.Native.Nat.{ℕ}
+use Rattle.std.specs.Prelude.{Result, Ok, Err, is_err}
 use Rattle.model.specs.Imports.{Derived}
 use Rattle.derive_state.specs.Held.{ValidArrays, ImportEnsures, ImportOrUndoEnsures}
-use Rattle.derive_state.specs.declared.Sizes.{Sizes}
+use Rattle.derive_state.specs.Sizes.{Sizes, told}
+use Rattle.derive_state.specs.declared.Full.{Full}
+use Rattle.derive_state.specs.declared.Sizes.{Sizes as Sizes'}
 use Rattle.derive_state.proofs.State.{st_stays, kept-stays}
 use Rattle.derive_snapshot.specs.Snapshot.{SaveEnsures, RestoreEnsures}
 use Rattle.derive_snapshot.proofs.Saved.{st_saved, kept_saved}
@@ -22,3 +26,11 @@ whole_of words log₀ logtags₀ starts₀ maps₀ buckets₀ e K s₀ m₀ S f 
       is = λ q. rw ((t.taken q).0, (t.taken q).1) (L.is q, L.kept q);
       beside = λ q. rw (t.taken q).0 (L.beside q);
     }
+
+-- what an error tells does not fit
+pub full_told : (r : Result Sizes' Full) → is_err r ≡ true → (told r).full ≡ true
+full_told (Ok e) h = absurd (false≢true h)
+full_told (Err f) h = refl
+
+pub undone : (r : Result Sizes' Full) → is_err r ≡ true → {s₀ m₀ s m starts maps : List (List ℕ)} → RestoreEnsures true s₀ m₀ s m starts maps → RestoreEnsures (told r).full s₀ m₀ s m starts maps
+undone r h t = rw (full_told r h) t

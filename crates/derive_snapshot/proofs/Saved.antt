@@ -8,7 +8,7 @@ use lib.Seq.{get_or-take}
 use Rattle.model.specs.Tables.{code_t, six}
 use Rattle.derive_state.specs.Flats.{function_of, special_of}
 use Rattle.derive_state.specs.Held.{row, cell, recs_at, table_of, recs_of, functions_of, entries_of, maps_of, st_of, size_r, sizes_of, ValidArrays}
-use Rattle.derive_state.specs.declared.Sizes.{Sizes}
+use Rattle.derive_state.specs.Sizes.{Sizes}
 use Rattle.derive_state.proofs.State.{code_low}
 use Rattle.derive_snapshot.specs.Snapshot.{SaveEnsures}
 

@@ -9,7 +9,7 @@ use lib.Seq.{get_or-set_same, get_or-set_other}
 use Rattle.model.specs.Module.{count_at}
 use Rattle.derive_state.specs.Source.{Source}
 use Rattle.derive_state.specs.Held.{row, ValidArrays}
-use Rattle.derive_state.specs.declared.Sizes.{Sizes}
+use Rattle.derive_state.specs.Sizes.{Sizes}
 use Rattle.derive_state.proofs.State.{same_or}
 use Rattle.derive_state.proofs.Fresh.{rows_at}
 use Rattle.derive_imports.proofs.Sources.{count_few}

@@ -2,7 +2,7 @@
 use Rattle.std.specs.Prelude.{◌≡◌, Bool, true, false, List, ℕ, ◌≤◌, ◌<◌, length, get_or, take}
 use Rattle.model.specs.Module.{count_at}
 use Rattle.derive_state.specs.Held.{row, cell}
-use Rattle.derive_state.specs.declared.Sizes.{Sizes}
+use Rattle.derive_state.specs.Sizes.{Sizes}
 
 -- the first n words of `from` have gone over those of `to₀`
 pub record Prefix (n : ℕ) (from to₀ to : List ℕ) : Type 0 where

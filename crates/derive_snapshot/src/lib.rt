@@ -2,13 +2,14 @@
 // else has to be: what was written lies after the log's end, and a bucket that was set costs a search at most.
 #![tactic(auto)]
 
-ghost use Rattle.std.specs.Prelude.{◌≡◌, ◌≤◌, ◌<◌, length, get_or};
+ghost use Rattle.std.specs.Prelude.{◌≡◌, true, ◌≤◌, ◌<◌, length, get_or};
 ghost use Rattle.model.specs.Module.{count_at};
+ghost use Rattle.derive_state.specs.Sizes.{going};
 ghost use Rattle.derive_snapshot.specs.Snapshot.{Prefix, Prefixes, SaveEnsures, RestoreEnsures};
 
 use base_views::count;
 use base_words::Words;
-use derive_state::{Maps, Sizes, Starts};
+use derive_state::{Derived, Maps, Sizes, Starts};
 
 // Saves the first n words of a row.
 fn save_row(row: &[u32; 512], n: usize, to: &mut [u32; 512])
@@ -38,35 +39,27 @@ fn save_maps(words: &Words, maps: &Maps, m: &mut [[u32; 512]; 6])
     }
 }
 
-// Saves the part of starts and maps that is in use.
-pub fn save(
-    words: &Words,
-    starts: &Starts,
-    maps: &Maps,
-    ends: Sizes,
-    s: &mut [[u32; 512]; 8],
-    m: &mut [[u32; 512]; 6],
-)
-    requires prefixes { Prefixes 8 0 (λ t. get_or ends.counts t 0) starts.now s.old }
-    requires prefixes_2 { Prefixes 6 0 (λ t. count_at t words.now) maps.now m.old }
-    ensures { SaveEnsures words.now starts.now maps.now ends s.new m.new }
-{
-    save_starts(starts, ends, s);
-    save_maps(words, maps, m);
+// What is saved of a derived module: the part of starts and maps that is in use.
+#[derive(Clone, Copy)]
+pub struct Snapshot {
+    pub starts: Starts,
+    pub maps: Maps,
 }
 
-// Restores starts and maps as they were saved, where something did not fit.
-pub fn restore(
-    starts: &mut Starts,
-    maps: &mut Maps,
-    s: &[[u32; 512]; 8],
-    m: &[[u32; 512]; 6],
-    full: bool,
-)
-    ensures { RestoreEnsures full s.now m.now starts.old maps.old starts.new maps.new }
+// Saves the part of starts and maps that is in use.
+pub fn save(words: &Words, derived: &Derived, saved: &mut Snapshot)
+    requires prefixes { Prefixes 8 0 (λ t. get_or derived.now.sizes.counts t 0) derived.now.starts.now saved.old.starts }
+    requires prefixes_2 { Prefixes 6 0 (λ t. count_at t words.now) derived.now.maps.now saved.old.maps }
+    ensures { SaveEnsures words.now derived.now.starts.now derived.now.maps.now (going derived.now.sizes) saved.new.starts saved.new.maps }
 {
-    if full {
-        *starts = *s;
-        *maps = *m;
-    }
+    save_starts(derived.starts, derived.sizes, &mut saved.starts);
+    save_maps(words, derived.maps, &mut saved.maps);
+}
+
+// Restores starts and maps as they were saved, where something did not fit. It takes the two arrays that it writes, not the module: what stays needs no clause so.
+pub fn restore(starts: &mut Starts, maps: &mut Maps, saved: &Snapshot)
+    ensures { RestoreEnsures true saved.now.starts saved.now.maps starts.old maps.old starts.new maps.new }
+{
+    *starts = saved.starts;
+    *maps = saved.maps;
 }

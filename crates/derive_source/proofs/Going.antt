@@ -8,7 +8,7 @@ use native.Mathlib.Omega.{arith}
 use Rattle.model.specs.Imports.{Derived}
 use Rattle.derive_state.specs.Held.{table_of, st_of, size_r, ValidArrays, Specials, Same}
 use Rattle.derive_state.specs.Marks.{Marks}
-use Rattle.derive_state.specs.declared.Sizes.{Sizes}
+use Rattle.derive_state.specs.Sizes.{Sizes}
 use Rattle.derive_state.proofs.State.{same_refl, same_then, marks_refl, marks_then, table_stays}
 use Rattle.derive_imports.proofs.Growth.{Grow, over_grow}
 use Rattle.derive_special.specs.Derives.{Aside, SpecialEnsures}

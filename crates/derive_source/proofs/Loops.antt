@@ -15,7 +15,7 @@ use Rattle.model.specs.Special.{ray, rays, pairs}
 use Rattle.derive_state.specs.Flats.{pairs_at}
 use Rattle.derive_state.specs.Source.{mod_of, src_of, Source}
 use Rattle.derive_state.specs.Held.{st_of, ValidArrays, Specials}
-use Rattle.derive_state.specs.declared.Sizes.{Sizes}
+use Rattle.derive_state.specs.Sizes.{Sizes}
 use Rattle.derive_special.specs.Derives.{pair_of, SpecialEnsures}
 use Rattle.derive_source.proofs.Reading.{three, ray-word, ray_low, pairs_are, special_in, pair_low}
 use Rattle.derive_source.proofs.Growing.{grow_rays, grow_pairs}

@@ -1,20 +1,24 @@
 -- The whole of setting a source: nothing is mapped, the three places, the pairs; and where it does not fit, nothing has changed.
 use mathlib.Core.Path.{◌≡◌, refl, sym, ap, ◌∙◌}
-use mathlib.Core.Bool.{true, false}
+use mathlib.Core.Bool.{true, false, true≢false}
 use mathlib.Core.List.{List}
 use Prim.Native.Nat.{ℕ}
 use lib.ListN.{replicate}
+use Rattle.std.specs.Prelude.{Result, is_err}
 use Rattle.model.specs.Module.{Module, count_at}
 use Rattle.model.specs.Tables.{Tab, code_t, Tables, count}
 use Rattle.model.specs.Imports.{Derived, emptied}
 use Rattle.model.specs.Special.{rays, pairs, sourced}
 use Rattle.derive_state.specs.Source.{mod_of, src_of, Source}
 use Rattle.derive_state.specs.Held.{st_of, ValidArrays, Specials}
-use Rattle.derive_state.specs.declared.Sizes.{Sizes}
+use Rattle.derive_state.specs.Sizes.{Sizes, told}
+use Rattle.derive_state.specs.declared.Full.{Full}
+use Rattle.derive_state.specs.declared.Sizes.{Sizes as Sizes'}
 use Rattle.derive_state.proofs.State.{tab_code, code_low, st_stays, kept-stays}
 use Rattle.derive_state.proofs.Fresh.{forgotten, kept_forgotten}
 use Rattle.derive_imports.proofs.Sources.{count_is, few}
 use Rattle.derive_snapshot.specs.Snapshot.{RestoreEnsures}
+use Rattle.derive_snapshot.proofs.Over.{full_told}
 use Rattle.derive_special.specs.Derives.{SpecialEnsures}
 use Rattle.derive_source.specs.SourceSet.{SourceTypesEnsures, SetSourceEnsures, Replaced}
 use Rattle.derive_source.proofs.Growing.{grow_pairs}
@@ -87,3 +91,6 @@ set_of words n o log₀ logtags₀ starts₀ maps₀ buckets₀ special₀ e K P
   aside = λ q. rw (t.taken q).0 (D.aside q);
   below = D.below;
 }
+
+pub put_back : (r : Result Sizes' Full) → is_err r ≡ true → {special₀ made : List ℕ} → Replaced (told r).full special₀ made special₀
+put_back r h = rw (full_told r h) (record { stays = λ q. refl; taken = λ q. absurd (true≢false q) })

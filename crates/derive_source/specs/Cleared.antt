@@ -8,7 +8,7 @@ use Rattle.model.specs.Tables.{Tab, names, types, constants, overrides, globals,
 use Rattle.model.specs.Imports.{emptied}
 use Rattle.model.specs.Session.{Source, clear}
 use Rattle.derive_state.specs.Held.{maps_of, st_of}
-use Rattle.derive_state.specs.declared.Sizes.{Sizes}
+use Rattle.derive_state.specs.Sizes.{Sizes}
 
 module _ (words words' log logtags : List ℕ) (starts maps maps' : List (List ℕ)) (special : List ℕ) (e : Sizes) where
   pub cleared : (x : Option Source) → clear (record { source = x; state = st_of words log logtags starts maps special e }) ≡ record { source = none; state = emptied (six (λ t. [])) (st_of words' log logtags starts maps' special e) }

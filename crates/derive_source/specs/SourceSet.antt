@@ -1,11 +1,14 @@
 -- What setting a source does to the arrays of a session.
-use Rattle.std.specs.Prelude.{◌≡◌, Bool, true, false, List, ℕ, ◌≤◌, length}
+use Rattle.std.specs.Prelude.{◌≡◌, Bool, true, false, List, ℕ, ◌≤◌, length, Result}
 use Rattle.model.specs.Special.{sourced}
 use Rattle.derive_state.specs.Source.{mod_of}
-use Rattle.derive_state.specs.Held.{table_of, st_of, size_r, Over, ValidArrays, Specials, Same}
+use Rattle.derive_state.specs.Held.{table_of, st_of, size_r, Over, ValidArrays, Specials, Same, SameArrays}
 use Rattle.derive_state.specs.Marks.{Marks}
-use Rattle.derive_state.specs.declared.Sizes.{Sizes}
+use Rattle.derive_state.specs.Sizes.{Sizes, going, told}
 use Rattle.derive_special.specs.Derives.{Aside}
+use Rattle.derive_state.specs.declared.Full.{Full as Full'}
+use Rattle.derive_state.specs.declared.Sizes.{Sizes as Sizes'}
+use Rattle.derive_state.specs.declared.DerivedMut.{DerivedMut}
 
 -- the arrays hold the state with the source of the first n words set; what was mapped, and of which source, does not matter
 pub record SourceTypesEnsures (words : List ℕ) (n o : ℕ) (log₀ logtags₀ : List ℕ) (starts₀ : List (List ℕ)) (buckets₀ special₀ : List ℕ) (e : Sizes) (r : Sizes) (log logtags : List ℕ) (starts maps : List (List ℕ)) (buckets special : List ℕ) : Type 0 where
@@ -32,3 +35,13 @@ pub record SetSourceEnsures (words : List ℕ) (n o : ℕ) (log₀ logtags₀ : 
 pub record Replaced (full : Bool) (special₀ made special : List ℕ) : Type 0 where
   pub stays : full ≡ true → special ≡ special₀
   pub taken : full ≡ false → special ≡ made
+
+-- SourceTypesEnsures of what an operation makes of a derived module and its sizes, in the caller's arrays
+pub record SetsTypes (words : List ℕ) (n o : ℕ) (d : DerivedMut) (special₀ : List ℕ) (e : Sizes') (r : Result Sizes' Full') (d' : DerivedMut) (special : List ℕ) : Type 0 where
+  pub does : SourceTypesEnsures words n o d.log.now d.logtags.now d.starts.now d.buckets.now special₀ (going e) (told r) d'.log.now d'.logtags.now d'.starts.now d'.maps.now d'.buckets.now special
+  pub same : SameArrays d d'
+
+-- SetSourceEnsures of what an operation makes of a derived module and its sizes, in the caller's arrays
+pub record SetsSource (words : List ℕ) (n o : ℕ) (d : DerivedMut) (special₀ : List ℕ) (e : Sizes') (r : Result Sizes' Full') (d' : DerivedMut) (special : List ℕ) : Type 0 where
+  pub does : SetSourceEnsures words n o d.log.now d.logtags.now d.starts.now d.maps.now special₀ (going e) (told r) d'.log.now d'.logtags.now d'.starts.now d'.maps.now d'.buckets.now special
+  pub same : SameArrays d d'

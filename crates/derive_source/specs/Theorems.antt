@@ -13,7 +13,7 @@ use Rattle.model.specs.Special.{rays, pairs, sourced}
 use Rattle.model.specs.Session.{Source, Session, answered, refused, set_module}
 use Rattle.derive_state.specs.Source.{mod_of}
 use Rattle.derive_state.specs.Held.{st_of}
-use Rattle.derive_state.specs.declared.Sizes.{Sizes}
+use Rattle.derive_state.specs.Sizes.{Sizes}
 use Rattle.derive_state.proofs.Laws.{none-held}
 use Rattle.derive_limits.specs.Reached.{Reached}
 use Rattle.derive_limits.proofs.Reached.{sourced-at}

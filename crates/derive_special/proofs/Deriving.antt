@@ -21,7 +21,7 @@ use Rattle.derive_state.specs.Flats.{pairs_at, special_of}
 use Rattle.derive_state.specs.Source.{src_of, Source}
 use Rattle.derive_state.specs.Held.{cell, put, table_of, maps_of, st_of, size_r, words_of, Over, long, keys, ValidArrays, Specials, Same, Beside, ImportEnsures}
 use Rattle.derive_state.specs.Marks.{Marks}
-use Rattle.derive_state.specs.declared.Sizes.{Sizes}
+use Rattle.derive_state.specs.Sizes.{Sizes}
 use Rattle.derive_state.proofs.State.{tab_code, code_low, same_or, same_refl, marks_refl, pairs_long, tab_long, words_are, table_stays, kept-point}
 use Rattle.derive_imports.proofs.Sources.{wf, count_is, count_few, inside, small_number}
 use Rattle.derive_imports.proofs.Growth.{Grow, over_grow, grow_T}

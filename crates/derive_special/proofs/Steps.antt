@@ -13,7 +13,7 @@ use Rattle.model.specs.Special.{force, put_ray, ray_to, ray, keyed, put_pair, pa
 use Rattle.derive_state.specs.Flats.{pairs_at, special_of}
 use Rattle.derive_state.specs.Source.{src_of, Source}
 use Rattle.derive_state.specs.Held.{cell, put, st_of, ValidArrays, Specials, ImportEnsures}
-use Rattle.derive_state.specs.declared.Sizes.{Sizes}
+use Rattle.derive_state.specs.Sizes.{Sizes}
 use Rattle.derive_imports.proofs.Growth.{grow_ray, grow_pair}
 use Rattle.derive_special.specs.Derives.{pair_of, SpecialEnsures}
 use Rattle.derive_special.proofs.Keys.{keyed_low}

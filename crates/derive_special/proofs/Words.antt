@@ -15,7 +15,7 @@ use Rattle.model.specs.Special.{force, with_special, put_ray, put_pair}
 use Rattle.derive_state.specs.Refers.{tab_of}
 use Rattle.derive_state.specs.Flats.{pairs_at, special_of}
 use Rattle.derive_state.specs.Held.{cell, put, recs_of, functions_of, st_of, ValidArrays}
-use Rattle.derive_state.specs.declared.Sizes.{Sizes}
+use Rattle.derive_state.specs.Sizes.{Sizes}
 use Rattle.derive_state.proofs.State.{maps-put}
 use Rattle.derive_imports.proofs.Turns.{map_is}
 

@@ -1,11 +1,14 @@
 -- What deriving special types does to the arrays of a session: they change with the records and the maps.
-use Rattle.std.specs.Prelude.{◌≡◌, true, false, List, ℕ, ◌≤◌, length, get_or}
+use Rattle.std.specs.Prelude.{◌≡◌, true, false, List, ℕ, ◌≤◌, length, get_or, Result}
 use Rattle.model.specs.Imports.{Derived}
 use Rattle.model.specs.Tables.{Tables}
 use Rattle.model.specs.Special.{keyed, pair_to}
-use Rattle.derive_state.specs.Held.{row, table_of, st_of, size_r, Over, ValidArrays, Specials, Same}
+use Rattle.derive_state.specs.Held.{row, table_of, st_of, size_r, Over, ValidArrays, Specials, Same, SameArrays}
 use Rattle.derive_state.specs.Marks.{Marks}
-use Rattle.derive_state.specs.declared.Sizes.{Sizes}
+use Rattle.derive_state.specs.Sizes.{Sizes, going, told}
+use Rattle.derive_state.specs.declared.Full.{Full as Full'}
+use Rattle.derive_state.specs.declared.Sizes.{Sizes as Sizes'}
+use Rattle.derive_state.specs.declared.DerivedMut.{DerivedMut}
 
 -- one pair of the source: a key and a type
 unfoldable pub pair_of : ℕ → ℕ → ℕ → Tables → Derived → Derived
@@ -29,3 +32,8 @@ pub record SpecialEnsures (words : List ℕ) (f : Derived → Derived) (log₀ l
   pub log_long : length log ≡ 16384
   pub tags_long : length logtags ≡ 16384
   pub marks_stay : Marks buckets₀ buckets
+
+-- SpecialEnsures of what an operation makes of a derived module and its sizes, in the caller's arrays
+pub record Derives (words : List ℕ) (f : Derived → Derived) (d : DerivedMut) (special₀ : List ℕ) (e : Sizes') (r : Result Sizes' Full') (d' : DerivedMut) (special : List ℕ) : Type 0 where
+  pub does : SpecialEnsures words f d.log.now d.logtags.now d.starts.now d.maps.now d.buckets.now special₀ (going e) (told r) d'.log.now d'.logtags.now d'.starts.now d'.maps.now d'.buckets.now special
+  pub same : SameArrays d d'

@@ -9,7 +9,7 @@ use Rattle.theory_records.specs.TableLaws.{at-six}
 use Rattle.derive_state.specs.Flats.{pairs_at, special_of}
 use Rattle.derive_state.specs.Marks.{MARKS}
 use Rattle.derive_state.specs.Held.{row, recs_at, table_of, recs_of, functions_of, entries_of, maps_of, st_of, size_r, sizes_of, ValidArrays}
-use Rattle.derive_state.specs.declared.Sizes.{Sizes}
+use Rattle.derive_state.specs.Sizes.{Sizes}
 use Rattle.derive_state.proofs.State.{code_low, six_ext}
 
 pub rows_at : (x : List ℕ) (k n : ℕ) → n < k → get_or (replicate k x) n [] ≡ x

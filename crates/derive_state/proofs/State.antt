@@ -24,8 +24,9 @@ use Rattle.theory_image.specs.Quiet.{each_map}
 use Rattle.derive_state.specs.Refers.{code_p, tab_of, went_r}
 use Rattle.derive_state.specs.Flats.{function_of, entry_of, pairs_at, special_of}
 use Rattle.derive_state.specs.Marks.{MARKS, SEVERAL, hash_r, place_r, Shows, alone, several, Marked, Marks, Left}
-use Rattle.derive_state.specs.Held.{row, cell, put, rec_at, recs_at, table_of, recs_of, functions_of, entries_of, maps_of, st_of, size_r, size_s, sizes_of, words_of, Over, long, many, Named, Nameless, Apart, ValidArrays, Same, Beside, ImportEnsures, Written, carried_by}
-use Rattle.derive_state.specs.declared.Sizes.{Sizes}
+use Rattle.derive_state.specs.Held.{row, cell, put, rec_at, recs_at, table_of, recs_of, functions_of, entries_of, maps_of, st_of, size_r, size_s, sizes_of, words_of, Over, long, many, Named, Nameless, Apart, ValidArrays, Same, SameArrays, Beside, ImportEnsures, Written, carried_by}
+use Rattle.derive_state.specs.Sizes.{Sizes}
+use Rattle.derive_state.specs.declared.DerivedMut.{DerivedMut}
 use Rattle.derive_state.proofs.Passes.{length-between}
 
 -- ---- tables by their codes
@@ -851,3 +852,10 @@ module _ (words tags₀ log logtags : List ℕ) (starts maps : List (List ℕ)) 
         where
           st_is : {R R' : Tables} {M M' : Maps} {fs fs' : List Function} {sp : Special} → R ≡ R' → M ≡ M' → fs ≡ fs' → ◌≡◌ {A = Derived} (record { recs = R; maps = M; functions = fs; special = sp }) (record { recs = R'; maps = M'; functions = fs'; special = sp })
           st_is {fs} {fs'} {sp} a b c i = record { recs = a i; maps = b i; functions = c i; special = sp }
+
+-- ---- the arrays of the caller
+pub arrays_same : (d : DerivedMut) → SameArrays d d
+arrays_same d = record { log_same = refl; logtags_same = refl; starts_same = refl; maps_same = refl; buckets_same = refl }
+
+pub arrays_then : {d d' d'' : DerivedMut} → SameArrays d d' → SameArrays d' d'' → SameArrays d d''
+arrays_then a b = record { log_same = b.log_same ∙ a.log_same; logtags_same = b.logtags_same ∙ a.logtags_same; starts_same = b.starts_same ∙ a.starts_same; maps_same = b.maps_same ∙ a.maps_same; buckets_same = b.buckets_same ∙ a.buckets_same }

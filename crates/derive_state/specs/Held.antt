@@ -2,7 +2,7 @@
 -- The log holds the records of all tables, each a count and that many words, with the class of each word in `logtags`. Rows 0 to 5 of `starts` say where the
 -- records of the six tables start, row 6 where functions do and row 7 where entry points do, which are flat records. A row of `maps` says of each number of
 -- the source 0, or its derived number plus 1.
-use Rattle.std.specs.Prelude.{◌≡◌, ℕ, zero, suc, ◌+◌, ◌*◌, ◌<◌, ◌≤◌, true, false, List, [], ◌∷◌, map, length, get_or, take, ◌≢◌, slice_index, slice_index_or, slice_set}
+use Rattle.std.specs.Prelude.{◌≡◌, ℕ, zero, suc, ◌+◌, ◌*◌, ◌<◌, ◌≤◌, true, false, List, [], ◌∷◌, map, length, get_or, take, ◌≢◌, Result, slice_index, slice_index_or, slice_set}
 use Rattle.std.proofs.lemmas.List.Edits.{sets}
 use Rattle.model.specs.Outcome.{Cells, class, word}
 use Rattle.model.specs.Table.{NAME}
@@ -17,7 +17,10 @@ use Rattle.theory_records.specs.RecordLaws.{All}
 use Rattle.derive_state.specs.Refers.{Small, target_bytes}
 use Rattle.derive_state.specs.Flats.{function_of, entry_of, special_of}
 use Rattle.derive_state.specs.Marks.{MARKS, Marked, Marks}
-use Rattle.derive_state.specs.declared.Sizes.{Sizes}
+use Rattle.derive_state.specs.Sizes.{Sizes, going, told}
+use Rattle.derive_state.specs.declared.Full.{Full}
+use Rattle.derive_state.specs.declared.Sizes.{Sizes as Sizes'}
+use Rattle.derive_state.specs.declared.DerivedMut.{DerivedMut}
 
 -- ---- arrays of arrays
 abbrev pub row : List (List ℕ) → ℕ → List ℕ
@@ -165,12 +168,33 @@ pub record ImportEnsures (words : List ℕ) (f : Derived → Derived) (log₀ lo
   pub tags_long : length logtags ≡ 16384
   pub marks_stay : Marks buckets₀ buckets
 
+-- the five arrays are the caller's, as they were
+pub record SameArrays (d d' : DerivedMut) : Type 0 where
+  pub log_same : d'.log.ghost_name ≡ d.log.ghost_name
+  pub logtags_same : d'.logtags.ghost_name ≡ d.logtags.ghost_name
+  pub starts_same : d'.starts.ghost_name ≡ d.starts.ghost_name
+  pub maps_same : d'.maps.ghost_name ≡ d.maps.ghost_name
+  pub buckets_same : d'.buckets.ghost_name ≡ d.buckets.ghost_name
+
+-- ValidArrays of a derived module and its sizes
+abbrev pub Valid : DerivedMut → Sizes' → Type 0
+Valid d e = ValidArrays d.log.now d.logtags.now d.starts.now d.maps.now d.buckets.now (going e)
+
+-- ImportEnsures of what an operation makes of them
+pub record Imports (words : List ℕ) (f : Derived → Derived) (d : DerivedMut) (e : Sizes') (r : Result Sizes' Full) (d' : DerivedMut) : Type 0 where
+  pub does : ImportEnsures words f d.log.now d.logtags.now d.starts.now d.maps.now d.buckets.now (going e) (told r) d'.log.now d'.logtags.now d'.starts.now d'.maps.now d'.buckets.now
+  pub same : SameArrays d d'
+
 -- the same, but where it is full the state is as it was
 pub record ImportOrUndoEnsures (words : List ℕ) (f : Derived → Derived) (log₀ logtags₀ : List ℕ) (starts₀ maps₀ : List (List ℕ)) (e : Sizes) (r : Sizes) (log logtags : List ℕ) (starts maps : List (List ℕ)) (buckets : List ℕ) : Type 0 where
   pub over : r.full ≡ true → (special : List ℕ) → Over (size_r (table_of log₀ logtags₀ starts₀ e.counts 7)) (f (st_of words log₀ logtags₀ starts₀ maps₀ special e))
   pub stays : r.full ≡ true → ((special : List ℕ) → st_of words log logtags starts maps special e ≡ st_of words log₀ logtags₀ starts₀ maps₀ special e) × ValidArrays log logtags starts maps buckets e
   pub is : r.full ≡ false → ((special : List ℕ) → f (st_of words log₀ logtags₀ starts₀ maps₀ special e) ≡ st_of words log logtags starts maps special r) × ValidArrays log logtags starts maps buckets r
   pub beside : r.full ≡ false → Beside starts₀ starts e r
+
+pub record ImportsOrUndoes (words : List ℕ) (f : Derived → Derived) (d : DerivedMut) (e : Sizes') (r : Result Sizes' Full) (d' : DerivedMut) : Type 0 where
+  pub does : ImportOrUndoEnsures words f d.log.now d.logtags.now d.starts.now d.maps.now (going e) (told r) d'.log.now d'.logtags.now d'.starts.now d'.maps.now d'.buckets.now
+  pub same : SameArrays d d'
 
 -- ---- a record of the source on its way
 -- it lies in words and tags, its numbers are in rows, and `targets` says what its classes refer to

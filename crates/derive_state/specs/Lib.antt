@@ -2,4 +2,5 @@ pub mod Refers
 pub mod Source
 pub mod Flats
 pub mod Marks
+pub mod Sizes
 pub mod Held

@@ -43,10 +43,9 @@ pub type ExprMap = [u16; 1024];
 pub type Places = [u16; 1025];
 
 // Sizes of the derived module: words of the log, records of each table, pairs of special types; for functions in progress the tops of their stacks, and how many
-// expressions the last one has; `full`: something did not fit.
+// expressions the last one has.
 #[derive(Clone, Copy)]
 pub struct Sizes {
-    pub full: bool,
     pub loglen: u16,
     pub counts: [u16; 8],
     pub pairs: u16,
@@ -54,6 +53,10 @@ pub struct Sizes {
     pub bodytop: u16,
     pub made: u16,
 }
+
+// Why an operation is refused that makes the derived module larger than an image can be: too many records of a table, or too many words.
+#[derive(Clone, Copy)]
+pub struct Full;
 
 // The derived module for those that only read it: the arrays, and how much of them is in use.
 #[derive(Clone, Copy)]
@@ -66,12 +69,44 @@ pub struct Derived<'a> {
     pub sizes: Sizes,
 }
 
+// The derived module for those that write it. Its sizes go beside it by value, so that what does not fit leaves them as they were.
+#[derive(Drop)]
+pub struct DerivedMut<'a> {
+    pub log: &'a mut Log,
+    pub logtags: &'a mut LogTags,
+    pub starts: &'a mut Starts,
+    pub maps: &'a mut Maps,
+    pub buckets: &'a mut Buckets,
+}
+
+impl DerivedMut<'_> {
+    // The module to be read, of these sizes.
+    pub fn view(&self, sizes: Sizes) -> Derived<'_>
+        ensures { (result.log.now ≡ self.now.log.now) × (result.logtags.now ≡ self.now.logtags.now) × (result.starts.now ≡ self.now.starts.now) × (result.maps.now ≡ self.now.maps.now) × (result.buckets.now ≡ self.now.buckets.now) × (result.sizes ≡ sizes) }
+    {
+        Derived {
+            log: self.log,
+            logtags: self.logtags,
+            starts: self.starts,
+            maps: self.maps,
+            buckets: self.buckets,
+            sizes,
+        }
+    }
+}
+
+// A source: its image, and the offset of its spans.
+#[derive(Clone, Copy)]
+pub struct ShaderSource<'a> {
+    pub image: Image<'a>,
+    pub offset: u32,
+}
+
 // The sizes of an empty module.
 pub fn empty() -> Sizes
-    ensures { result ≡ record { full = false; loglen = 0; counts = replicate 8 0; pairs = 0; exprtop = 0; bodytop = 0; made = 0 } }
+    ensures { result ≡ record { loglen = 0; counts = replicate 8 0; pairs = 0; exprtop = 0; bodytop = 0; made = 0 } }
 {
     Sizes {
-        full: false,
         loglen: 0,
         counts: [0; 8],
         pairs: 0,
@@ -88,37 +123,17 @@ pub fn clear_maps(maps: &mut Maps)
     *maps = [[0; 512]; 6];
 }
 
-// The same sizes, marked full.
-pub fn mark_full(e: Sizes) -> Sizes
-    ensures { result.full ≡ true }
-{
-    let c = e.counts;
-    Sizes {
-        full: true,
-        loglen: e.loglen,
-        counts: c,
-        pairs: e.pairs,
-        exprtop: e.exprtop,
-        bodytop: e.bodytop,
-        made: e.made,
-    }
-}
-
 // The sizes with one record more in table t, of n words with its count.
 pub fn with_record(e: Sizes, t: usize, n: usize) -> Sizes
     requires { (t < 8) × (e.loglen + n ≤ 16384) × (slice_index e.counts t < 512) }
-    ensures { result ≡ record { full = false; loglen = e.loglen + n; counts = slice_set e.counts t (slice_index e.counts t + 1); pairs = e.pairs; exprtop = e.exprtop; bodytop = e.bodytop; made = e.made } }
+    ensures { result ≡ record { loglen = e.loglen + n; counts = slice_set e.counts t (slice_index e.counts t + 1); pairs = e.pairs; exprtop = e.exprtop; bodytop = e.bodytop; made = e.made } }
 {
     let mut c = e.counts;
-    c[t] = c[t] + 1;
+    c[t] += 1;
     Sizes {
-        full: false,
         loglen: (e.loglen as usize + n) as u16,
         counts: c,
-        pairs: e.pairs,
-        exprtop: e.exprtop,
-        bodytop: e.bodytop,
-        made: e.made,
+        ..e
     }
 }
 
@@ -266,28 +281,28 @@ pub fn moved(s: u8, w: u32, offset: u32, u: bool) -> u32
     wrapping_add_u32(w, offset)
 }
 
-// Writes what the source's words from `at` to `end` become to the log, from `to` on.
+// Writes what the source's words from `at` to `end` become to the log, from `to` on. It takes the two arrays that it writes, not the module: what stays needs no
+// clause so.
 pub fn write(
-    image: Image,
+    source: ShaderSource,
     log: &mut Log,
     logtags: &mut LogTags,
     maps: &Maps,
     at: usize,
     end: usize,
     to: usize,
-    offset: u32,
 )
-    requires readable { Readable image.words.now image.tags.now target_bytes at end }
+    requires readable { Readable source.image.words.now source.image.tags.now target_bytes at end }
     requires at_bound { (to + (end - at) ≤ 16384) × (length log.old ≡ 16384) × (length logtags.old ≡ 16384) × (length maps.now ≡ 6) }
-    ensures { Written (shift (carried_by (went_r maps.now) image.entry.tags.now image.entry.words.now at end) offset false) to log.old logtags.old log.new logtags.new }
+    ensures { Written (shift (carried_by (went_r maps.now) source.entry.image.tags.now source.entry.image.words.now at end) source.entry.offset false) to log.old logtags.old log.new logtags.new }
 {
     let mut u = false;
     for j in at..end {
         let q = to + (j - at);
-        let s = image.tags[j];
-        let w = carried(maps, s, image.words[j]);
-        u = undefined_at(image, maps, s, w, j + 1, end, u);
-        log[q] = moved(s, w, offset, u);
+        let s = source.image.tags[j];
+        let w = carried(maps, s, source.image.words[j]);
+        u = undefined_at(source.image, maps, s, w, j + 1, end, u);
+        log[q] = moved(s, w, source.offset, u);
         logtags[q] = s;
     }
 }

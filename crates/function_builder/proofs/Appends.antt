@@ -18,7 +18,7 @@ use Rattle.theory_records.specs.RecordLaws.{length_shift, length-carry}
 use Rattle.theory_passes.specs.Light.{still}
 use Rattle.derive_state.specs.Source.{mod_of}
 use Rattle.derive_state.specs.Held.{put, st_of, long, carried_by}
-use Rattle.derive_state.specs.declared.Sizes.{Sizes}
+use Rattle.derive_state.specs.Sizes.{Sizes}
 use Rattle.derive_state.proofs.Passes.{length-between}
 use Rattle.derive_state.proofs.State.{same_refl, marks_refl, seat_low, seat_shift, merged_old, merged-new}
 use Rattle.function_references.specs.Fits.{Legible}

@@ -16,7 +16,7 @@ use Rattle.theory_records.specs.Kinds.{far_copied}
 use Rattle.derive_state.specs.Refers.{code_p, target_of, went_r, Small}
 use Rattle.derive_state.specs.Source.{mod_of}
 use Rattle.derive_state.specs.Held.{st_of}
-use Rattle.derive_state.specs.declared.Sizes.{Sizes}
+use Rattle.derive_state.specs.Sizes.{Sizes}
 use Rattle.derive_state.proofs.Classes.{span_of, place-top, kind_small}
 use Rattle.derive_state.proofs.State.{code_low}
 use Rattle.derive_lookup.specs.Bearing.{KnownEnsures}

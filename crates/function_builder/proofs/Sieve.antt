@@ -13,7 +13,7 @@ use Rattle.model.specs.Between.{between}
 use Rattle.model.specs.References.{Place, target, ref_of, through, alike_c, alike, index_of}
 use Rattle.theory_records.specs.RecordLaws.{All}
 use Rattle.derive_state.specs.Held.{row, cell, carried_by}
-use Rattle.derive_state.specs.declared.Sizes.{Sizes}
+use Rattle.derive_state.specs.Sizes.{Sizes}
 use Rattle.derive_state.proofs.Classes.{alike-class, alike_upto}
 use Rattle.derive_state.proofs.Passes.{compares_short}
 use Rattle.derive_state.proofs.Unlike.{all-at, unlike}

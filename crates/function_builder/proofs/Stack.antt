@@ -16,7 +16,7 @@ use Rattle.model.specs.References.{Place, table, own, function, Node, refs}
 use Rattle.theory_records.specs.RecordLaws.{All, all_map}
 use Rattle.theory_image.specs.Betweens.{beside_cells, between_none}
 use Rattle.derive_state.specs.Held.{row, put, Written}
-use Rattle.derive_state.specs.declared.Sizes.{Sizes}
+use Rattle.derive_state.specs.Sizes.{Sizes}
 use Rattle.derive_state.proofs.Passes.{length-between}
 use Rattle.derive_state.proofs.State.{same_or, row_other}
 use Rattle.function_references.specs.Fits.{Fits, FitN, Legible}

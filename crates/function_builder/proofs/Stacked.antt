@@ -11,7 +11,7 @@ use Rattle.model.specs.Outcome.{Cells}
 use Rattle.model.specs.Between.{between}
 use Rattle.model.specs.References.{alike, index_of}
 use Rattle.derive_state.specs.Held.{row}
-use Rattle.derive_state.specs.declared.Sizes.{Sizes}
+use Rattle.derive_state.specs.Sizes.{Sizes}
 use Rattle.function_references.specs.Cuts.{next_of, cut, Rising}
 use Rattle.function_builder.specs.Stacks.{seats_of, made_of, Stacks}
 use Rattle.function_builder.proofs.Stack.{rising_low}

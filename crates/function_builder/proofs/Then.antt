@@ -11,7 +11,7 @@ use Rattle.model.specs.Tree.{flat_all}
 use Rattle.model.specs.Imports.{Derived}
 use Rattle.model.specs.Bodies.{Builder, bring}
 use Rattle.derive_state.specs.Held.{table_of, size_r, Over, ValidArrays, Beside, ImportEnsures}
-use Rattle.derive_state.specs.declared.Sizes.{Sizes}
+use Rattle.derive_state.specs.Sizes.{Sizes}
 use Rattle.derive_state.proofs.State.{same_refl, same_then, marks_refl, marks_then, table_stays}
 use Rattle.function_builder.specs.Stacks.{made_of, making_of, Stacks, Under}
 use Rattle.function_builder.specs.Makes.{Aside, Stays, Makes}

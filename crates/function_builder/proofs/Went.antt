@@ -12,7 +12,7 @@ use Rattle.model.specs.Bodies.{known, mapped_to, carried}
 use Rattle.theory_records.specs.RecordLaws.{All, all_map, carry_same}
 use Rattle.derive_state.specs.Source.{mod_of}
 use Rattle.derive_state.specs.Held.{st_of, carried_by}
-use Rattle.derive_state.specs.declared.Sizes.{Sizes}
+use Rattle.derive_state.specs.Sizes.{Sizes}
 use Rattle.derive_imports.proofs.Turns.{map_is}
 use Rattle.function_references.specs.Fits.{Fits, FitN}
 use Rattle.function_builder.specs.Stacks.{went_of, making_of}

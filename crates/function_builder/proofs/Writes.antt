@@ -9,7 +9,7 @@ use lib.Seq.{get_or-set_same}
 use Rattle.model.specs.References.{Place, target, ref_of, through, first_word, undefined_at, moved, shift}
 use Rattle.theory_records.specs.RecordLaws.{All}
 use Rattle.derive_state.specs.Held.{row, put, carried_by}
-use Rattle.derive_state.specs.declared.Sizes.{Sizes}
+use Rattle.derive_state.specs.Sizes.{Sizes}
 use Rattle.derive_state.proofs.Passes.{Writing, write-begin, write_done, write_good, write_stretch, write-rest, write-next}
 use Rattle.derive_state.proofs.State.{row_other}
 use Rattle.function_references.specs.Fits.{FitN, Legible}

@@ -1,13 +1,16 @@
 -- What an operation does to a function under construction.
-use Rattle.std.specs.Prelude.{◌≡◌, true, false, List, ℕ, ◌+◌, ◌≤◌, ◌<◌, length, get_or, take}
+use Rattle.std.specs.Prelude.{◌≡◌, true, false, List, ℕ, ◌+◌, ◌≤◌, ◌<◌, length, get_or, take, Result}
 use Rattle.model.specs.Outcome.{Cells}
 use Rattle.model.specs.Tree.{flat_all}
 use Rattle.model.specs.References.{alike_c}
 use Rattle.model.specs.Bodies.{Builder}
-use Rattle.derive_state.specs.Held.{row, cell, put, table_of, size_r, Over, ValidArrays, Same, Written}
+use Rattle.derive_state.specs.Held.{row, cell, put, table_of, size_r, Over, ValidArrays, Same, Written, SameArrays}
 use Rattle.derive_state.specs.Marks.{Marks}
-use Rattle.derive_state.specs.declared.Sizes.{Sizes}
+use Rattle.derive_state.specs.Sizes.{Sizes, going, told}
 use Rattle.function_builder.specs.Stacks.{making_of, Under}
+use Rattle.derive_state.specs.declared.Full.{Full as Full'}
+use Rattle.derive_state.specs.declared.Sizes.{Sizes as Sizes'}
+use Rattle.derive_state.specs.declared.DerivedMut.{DerivedMut}
 
 -- functions, entry points and pairs are as they were, and so is the stack of words; that of expressions has not shrunk
 pub record Aside (starts starts' : List (List ℕ)) (e r : Sizes) : Type 0 where
@@ -61,3 +64,8 @@ pub record Pushed (w : ℕ) (stacks₀ : List (List ℕ)) (e r : Sizes) (stacks 
   pub is : r.full ≡ false → stacks ≡ put stacks₀ 3 e.bodytop w
   pub ends : r.full ≡ false → r ≡ record { full = false; loglen = e.loglen; counts = e.counts; pairs = e.pairs; exprtop = e.exprtop; bodytop = e.bodytop + 1; made = e.made }
   pub room : r.full ≡ false → e.bodytop < 16384
+
+-- Makes of what an operation makes of a derived module and its sizes, in the caller's arrays
+pub record Builds (words : List ℕ) (k : ℕ) (f : Builder → Builder) (d : DerivedMut) (exprmap₀ : List ℕ) (stacks₀ : List (List ℕ)) (e₁ : ℕ) (e : Sizes') (r : Result Sizes' Full') (d' : DerivedMut) (exprmap : List ℕ) (stacks : List (List ℕ)) : Type 0 where
+  pub does : Makes words k f d.log.now d.logtags.now d.starts.now d.maps.now d.buckets.now exprmap₀ stacks₀ e₁ (going e) (told r) d'.log.now d'.logtags.now d'.starts.now d'.maps.now d'.buckets.now exprmap stacks
+  pub same : SameArrays d d'

@@ -8,7 +8,7 @@ use Rattle.model.specs.References.{Place, table, own, function}
 use Rattle.model.specs.Bodies.{known, Builder}
 use Rattle.derive_state.specs.Source.{mod_of}
 use Rattle.derive_state.specs.Held.{row, cell, st_of}
-use Rattle.derive_state.specs.declared.Sizes.{Sizes}
+use Rattle.derive_state.specs.Sizes.{Sizes}
 use Rattle.function_references.specs.Cuts.{cut, Rising}
 
 -- ---- what numbers are mapped to: by the rows, by the function's own map, by name; and the same but for functions

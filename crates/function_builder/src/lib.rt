@@ -20,14 +20,15 @@ ghost use Rattle.function_references.specs.Fits.{FitN, Ground, Legible};
 ghost use Rattle.function_references.specs.Cuts.{next_of, Rising, exprs_of, Expressions};
 ghost use Rattle.function_builder.specs.Stacks.{went_by, went_of, seats_of, made_of, Stacks, Under};
 ghost use Rattle.function_builder.specs.Makes.{Lays, Wrote, Hops, Pushed};
+ghost use Rattle.derive_state.specs.Sizes.{going, told};
 
 use base_classes::{EXPR, SPAN, UPTO};
 use base_views::Image;
 use base_words::Tags;
 use derive_lookup::known;
 use derive_state::{
-    Derived, ExprMap, FUNCTION, Maps, OPT_OWN, OWN, Places, Sizes, StackRows, mark_full, moved,
-    number_of, target_of,
+    Derived, ExprMap, FUNCTION, Full, Maps, OPT_OWN, OWN, Places, ShaderSource, Sizes, StackRows,
+    moved, number_of, target_of,
 };
 
 // The rows of the stacks: words and classes of expressions, where each of them starts, and words of declarations, bodies and names.
@@ -38,6 +39,15 @@ pub const CLASSES: usize = 1;
 pub const SEATS: usize = 2;
 
 pub const BODY: usize = 3;
+
+// The expressions of a source's function: where each of them starts in the image and where the last one ends, and how many there are; and where the derived ones
+// start on the stack, by their places.
+#[derive(Clone, Copy)]
+pub struct ExpressionIndex<'a> {
+    pub places: &'a Places,
+    pub count: usize,
+    pub base: usize,
+}
 
 // Where each expression record starts, from `at` on, and where the last one ends.
 pub fn index(tags: &Tags, at: usize, end: usize, places: &mut Places)
@@ -68,10 +78,10 @@ pub fn by_maps(maps: &Maps, exprmap: &ExprMap, s: u8, w: u32) -> u32
 // A word carried through the maps, or to the function of its name.
 pub fn carried(image: Image, derived: &Derived, exprmap: &ExprMap, s: u8, w: u32) -> u32
     requires ground { Ground image.words.now image.tags.now target_bytes image.n }
-    requires bearing { Bearing derived.now.log.now derived.now.logtags.now derived.now.starts.now derived.now.sizes }
+    requires bearing { Bearing derived.now.log.now derived.now.logtags.now derived.now.starts.now (going derived.now.sizes) }
     requires maps_len { length derived.now.maps.now ≡ 6 }
     requires all { All (FitN image.words.now 1024) (ref_of (target s) w []) }
-    ensures { result ≡ through (went_of image.entry.words.now image.entry.n derived.now.log.now derived.now.logtags.now derived.now.starts.now derived.now.maps.now derived.now.sizes exprmap.now) s w }
+    ensures { result ≡ through (went_of image.entry.words.now image.entry.n derived.now.log.now derived.now.logtags.now derived.now.starts.now derived.now.maps.now (going derived.now.sizes) exprmap.now) s w }
 {
     if target_of(s) == FUNCTION {
         return known(image, derived, w as usize).unwrap_or(0);
@@ -92,10 +102,10 @@ fn undefined_at(
     u: bool,
 ) -> bool
     requires ground { Ground image.words.now image.tags.now target_bytes image.n }
-    requires bearing { Bearing derived.now.log.now derived.now.logtags.now derived.now.starts.now derived.now.sizes }
+    requires bearing { Bearing derived.now.log.now derived.now.logtags.now derived.now.starts.now (going derived.now.sizes) }
     requires maps_len { length derived.now.maps.now ≡ 6 }
     requires legible { Legible image.words.now image.tags.now 1024 i end }
-    ensures { result ≡ undefined_at (target s) w (first_word (carried_by (went_of image.entry.words.now image.entry.n derived.now.log.now derived.now.logtags.now derived.now.starts.now derived.now.maps.now derived.now.sizes exprmap.now) image.entry.tags.now image.entry.words.now i end)) u }
+    ensures { result ≡ undefined_at (target s) w (first_word (carried_by (went_of image.entry.words.now image.entry.n derived.now.log.now derived.now.logtags.now derived.now.starts.now derived.now.maps.now (going derived.now.sizes) exprmap.now) image.entry.tags.now image.entry.words.now i end)) u }
 {
     if s != SPAN {
         return u;
@@ -105,72 +115,63 @@ fn undefined_at(
 
 // Writes what the source's words from `at` to `end` become on the top of the stack of expressions.
 pub fn write(
-    image: Image,
+    source: ShaderSource,
     derived: &Derived,
     exprmap: &ExprMap,
     stacks: &mut StackRows,
-    offset: u32,
     at: usize,
     end: usize,
 )
-    requires ground { Ground image.words.now image.tags.now target_bytes image.n }
-    requires bearing { Bearing derived.now.log.now derived.now.logtags.now derived.now.starts.now derived.now.sizes }
+    requires ground { Ground source.image.words.now source.image.tags.now target_bytes source.image.n }
+    requires bearing { Bearing derived.now.log.now derived.now.logtags.now derived.now.starts.now (going derived.now.sizes) }
     requires maps_len { length derived.now.maps.now ≡ 6 }
-    requires legible { Legible image.words.now image.tags.now 1024 at end }
-    requires stacks { (Stacks stacks.old derived.now.sizes) × (derived.now.sizes.exprtop + (end - at) ≤ 16384) }
-    ensures { Wrote (shift (carried_by (went_of image.entry.words.now image.entry.n derived.now.log.now derived.now.logtags.now derived.now.starts.now derived.now.maps.now derived.now.sizes exprmap.now) image.entry.tags.now image.entry.words.now at end) offset false) derived.now.sizes.exprtop stacks.old stacks.new }
+    requires legible { Legible source.image.words.now source.image.tags.now 1024 at end }
+    requires stacks { (Stacks stacks.old (going derived.now.sizes)) × (derived.now.sizes.exprtop + (end - at) ≤ 16384) }
+    ensures { Wrote (shift (carried_by (went_of source.entry.image.words.now source.entry.image.n derived.now.log.now derived.now.logtags.now derived.now.starts.now derived.now.maps.now (going derived.now.sizes) exprmap.now) source.entry.image.tags.now source.entry.image.words.now at end) source.entry.offset false) derived.now.sizes.exprtop stacks.old stacks.new }
 {
     let mut u = false;
     for j in at..end {
         let q = derived.sizes.exprtop as usize + (j - at);
-        let s = image.tags[j];
-        let w = carried(image, derived, exprmap, s, image.words[j]);
-        u = undefined_at(image, derived, exprmap, s, w, j + 1, end, u);
-        stacks[WORDS][q] = moved(s, w, offset, u);
+        let s = source.image.tags[j];
+        let w = carried(source.image, derived, exprmap, s, source.image.words[j]);
+        u = undefined_at(source.image, derived, exprmap, s, w, j + 1, end, u);
+        stacks[WORDS][q] = moved(s, w, source.offset, u);
         stacks[CLASSES][q] = s as u32;
     }
 }
 
-// Appends expression e, of k.
+// Appends expression e.
 pub fn append(
-    image: Image,
-    places: &Places,
+    source: ShaderSource,
+    expressions: ExpressionIndex,
     derived: &Derived,
     exprmap: &mut ExprMap,
     stacks: &mut StackRows,
-    offset: u32,
-    e1: usize,
-    k: usize,
     e: usize,
-) -> Sizes
-    requires ground { Ground image.words.now image.tags.now target_bytes image.n }
-    requires bearing { Bearing derived.now.log.now derived.now.logtags.now derived.now.starts.now derived.now.sizes }
+) -> Result<Sizes, Full>
+    requires ground { Ground source.image.words.now source.image.tags.now target_bytes source.image.n }
+    requires bearing { Bearing derived.now.log.now derived.now.logtags.now derived.now.starts.now (going derived.now.sizes) }
     requires maps_len { length derived.now.maps.now ≡ 6 }
-    requires expressions { Expressions image.words.now image.tags.now places.now k }
-    requires e_lt_k { (e < k) × (derived.now.sizes.full ≡ false) }
-    requires under { Under k exprmap.old stacks.old e1 derived.now.sizes }
-    ensures { Lays image.entry.words.now k (pushE offset (mod_of image.entry.words.now image.entry.n) still (exprs_of image.entry.words.now image.entry.tags.now places.now k) e) derived.now.log.now derived.now.logtags.now derived.now.starts.now derived.now.maps.now exprmap.old stacks.old e1 derived.now.sizes result exprmap.new stacks.new }
+    requires expressions { Expressions source.image.words.now source.image.tags.now expressions.places.now expressions.count }
+    requires e_lt_k { e < expressions.count }
+    requires under { Under expressions.count exprmap.old stacks.old expressions.base (going derived.now.sizes) }
+    ensures { Lays source.entry.image.words.now expressions.entry.count (pushE source.entry.offset (mod_of source.entry.image.words.now source.entry.image.n) still (exprs_of source.entry.image.words.now source.entry.image.tags.now expressions.entry.places.now expressions.entry.count) e) derived.now.log.now derived.now.logtags.now derived.now.starts.now derived.now.maps.now exprmap.old stacks.old expressions.entry.base (going derived.now.sizes) (told result) exprmap.new stacks.new }
 {
-    let at = places[e] as usize;
-    let end = places[e + 1] as usize;
+    let at = expressions.places[e] as usize;
+    let end = expressions.places[e + 1] as usize;
     let exprtop = derived.sizes.exprtop as usize;
     let made = derived.sizes.made as usize;
     if 16384 - exprtop < end - at {
-        return mark_full(derived.sizes);
+        return Err(Full);
     }
-    write(image, derived, exprmap, stacks, offset, at, end);
-    stacks[SEATS][e1 + made] = exprtop as u32;
+    write(source, derived, exprmap, stacks, at, end);
+    stacks[SEATS][expressions.base + made] = exprtop as u32;
     exprmap[e] = (made + 1) as u16;
-    let c = derived.sizes.counts;
-    Sizes {
-        full: false,
-        loglen: derived.sizes.loglen,
-        counts: c,
-        pairs: derived.sizes.pairs,
+    Ok(Sizes {
         exprtop: (exprtop + (end - at)) as u16,
-        bodytop: derived.sizes.bodytop,
         made: (made + 1) as u16,
-    }
+        ..derived.sizes
+    })
 }
 
 // Whether the word x of the class a equals the word y of the class b; for words of spans only the classes are compared.
@@ -194,11 +195,11 @@ fn first_difference(
     b: usize,
 ) -> Option<usize>
     requires ground { Ground image.words.now image.tags.now target_bytes image.n }
-    requires bearing { Bearing derived.now.log.now derived.now.logtags.now derived.now.starts.now derived.now.sizes }
+    requires bearing { Bearing derived.now.log.now derived.now.logtags.now derived.now.starts.now (going derived.now.sizes) }
     requires maps_len { length derived.now.maps.now ≡ 6 }
     requires legible { Legible image.words.now image.tags.now 1024 at end }
-    requires stacks { (Stacks stacks.now derived.now.sizes) × (a ≤ b) × (b ≤ 16384) × (b - a ≡ end - at) }
-    ensures { MatchOption result (true ≡ alike (between (row stacks.now 1) (row stacks.now 0) a b) (carried_by (went_of image.entry.words.now image.entry.n derived.now.log.now derived.now.logtags.now derived.now.starts.now derived.now.maps.now derived.now.sizes exprmap.now) image.entry.tags.now image.entry.words.now at end)) (λ p. (at ≤ p) × (p < end) × (false ≡ alike (between (row stacks.now 1) (row stacks.now 0) a b) (carried_by (went_of image.entry.words.now image.entry.n derived.now.log.now derived.now.logtags.now derived.now.starts.now derived.now.maps.now derived.now.sizes exprmap.now) image.entry.tags.now image.entry.words.now at end))) }
+    requires stacks { (Stacks stacks.now (going derived.now.sizes)) × (a ≤ b) × (b ≤ 16384) × (b - a ≡ end - at) }
+    ensures { MatchOption result (true ≡ alike (between (row stacks.now 1) (row stacks.now 0) a b) (carried_by (went_of image.entry.words.now image.entry.n derived.now.log.now derived.now.logtags.now derived.now.starts.now derived.now.maps.now (going derived.now.sizes) exprmap.now) image.entry.tags.now image.entry.words.now at end)) (λ p. (at ≤ p) × (p < end) × (false ≡ alike (between (row stacks.now 1) (row stacks.now 0) a b) (carried_by (went_of image.entry.words.now image.entry.n derived.now.log.now derived.now.logtags.now derived.now.starts.now derived.now.maps.now (going derived.now.sizes) exprmap.now) image.entry.tags.now image.entry.words.now at end))) }
 {
     for j in at..end {
         let q = a + (j - at);
@@ -213,8 +214,8 @@ fn first_difference(
 
 // Where expression k of those on the stack ends.
 fn expr_end(stacks: &StackRows, ends: Sizes, e1: usize, k: usize) -> usize
-    requires { (Stacks stacks.now ends) × (k < ends.made) × (e1 + ends.made ≤ 16384) }
-    ensures { result ≡ next_of (drop (k + 1) (seats_of stacks.now e1 ends)) ends.exprtop }
+    requires { (Stacks stacks.now (going ends)) × (k < ends.made) × (e1 + ends.made ≤ 16384) }
+    ensures { result ≡ next_of (drop (k + 1) (seats_of stacks.now e1 (going ends))) ends.exprtop }
 {
     if k + 1 < ends.made as usize {
         return stacks[SEATS][e1 + k + 1] as usize;
@@ -259,11 +260,11 @@ fn find_equal(
     end: usize,
 ) -> Option<usize>
     requires ground { Ground image.words.now image.tags.now target_bytes image.n }
-    requires bearing { Bearing derived.now.log.now derived.now.logtags.now derived.now.starts.now derived.now.sizes }
+    requires bearing { Bearing derived.now.log.now derived.now.logtags.now derived.now.starts.now (going derived.now.sizes) }
     requires maps_len { length derived.now.maps.now ≡ 6 }
     requires legible { Legible image.words.now image.tags.now 1024 at end }
-    requires stacks { (Stacks stacks.now derived.now.sizes) × (Rising (seats_of stacks.now e1 derived.now.sizes) e1 derived.now.sizes.exprtop) × (length (seats_of stacks.now e1 derived.now.sizes) ≡ derived.now.sizes.made) × (at < end) }
-    ensures { MatchOption result (derived.now.sizes.made ≡ seat_of (made_of stacks.now e1 derived.now.sizes) (carried_by (went_of image.entry.words.now image.entry.n derived.now.log.now derived.now.logtags.now derived.now.starts.now derived.now.maps.now derived.now.sizes exprmap.now) image.entry.tags.now image.entry.words.now at end)) (λ j. (j < derived.now.sizes.made) × (j ≡ seat_of (made_of stacks.now e1 derived.now.sizes) (carried_by (went_of image.entry.words.now image.entry.n derived.now.log.now derived.now.logtags.now derived.now.starts.now derived.now.maps.now derived.now.sizes exprmap.now) image.entry.tags.now image.entry.words.now at end))) }
+    requires stacks { (Stacks stacks.now (going derived.now.sizes)) × (Rising (seats_of stacks.now e1 (going derived.now.sizes)) e1 derived.now.sizes.exprtop) × (length (seats_of stacks.now e1 (going derived.now.sizes)) ≡ derived.now.sizes.made) × (at < end) }
+    ensures { MatchOption result (derived.now.sizes.made ≡ seat_of (made_of stacks.now e1 (going derived.now.sizes)) (carried_by (went_of image.entry.words.now image.entry.n derived.now.log.now derived.now.logtags.now derived.now.starts.now derived.now.maps.now (going derived.now.sizes) exprmap.now) image.entry.tags.now image.entry.words.now at end)) (λ j. (j < derived.now.sizes.made) × (j ≡ seat_of (made_of stacks.now e1 (going derived.now.sizes)) (carried_by (went_of image.entry.words.now image.entry.n derived.now.log.now derived.now.logtags.now derived.now.starts.now derived.now.maps.now (going derived.now.sizes) exprmap.now) image.entry.tags.now image.entry.words.now at end))) }
 {
     let made = derived.sizes.made as usize;
     let mut p = end - 1;
@@ -288,51 +289,50 @@ fn find_equal(
 
 // Maps expression e to an equal one on the stack, or appends it.
 pub fn merge(
-    image: Image,
-    places: &Places,
+    source: ShaderSource,
+    expressions: ExpressionIndex,
     derived: &Derived,
     exprmap: &mut ExprMap,
     stacks: &mut StackRows,
-    offset: u32,
-    e1: usize,
-    k: usize,
     e: usize,
-) -> Sizes
-    requires ground { Ground image.words.now image.tags.now target_bytes image.n }
-    requires bearing { Bearing derived.now.log.now derived.now.logtags.now derived.now.starts.now derived.now.sizes }
+) -> Result<Sizes, Full>
+    requires ground { Ground source.image.words.now source.image.tags.now target_bytes source.image.n }
+    requires bearing { Bearing derived.now.log.now derived.now.logtags.now derived.now.starts.now (going derived.now.sizes) }
     requires maps_len { length derived.now.maps.now ≡ 6 }
-    requires expressions { Expressions image.words.now image.tags.now places.now k }
-    requires e_lt_k { (e < k) × (derived.now.sizes.full ≡ false) }
-    requires under { Under k exprmap.old stacks.old e1 derived.now.sizes }
-    ensures { Lays image.entry.words.now k (intern_expr offset (mod_of image.entry.words.now image.entry.n) still (exprs_of image.entry.words.now image.entry.tags.now places.now k) e) derived.now.log.now derived.now.logtags.now derived.now.starts.now derived.now.maps.now exprmap.old stacks.old e1 derived.now.sizes result exprmap.new stacks.new }
+    requires expressions { Expressions source.image.words.now source.image.tags.now expressions.places.now expressions.count }
+    requires e_lt_k { e < expressions.count }
+    requires under { Under expressions.count exprmap.old stacks.old expressions.base (going derived.now.sizes) }
+    ensures { Lays source.entry.image.words.now expressions.entry.count (intern_expr source.entry.offset (mod_of source.entry.image.words.now source.entry.image.n) still (exprs_of source.entry.image.words.now source.entry.image.tags.now expressions.entry.places.now expressions.entry.count) e) derived.now.log.now derived.now.logtags.now derived.now.starts.now derived.now.maps.now exprmap.old stacks.old expressions.entry.base (going derived.now.sizes) (told result) exprmap.new stacks.new }
 {
-    let at = places[e] as usize;
-    let end = places[e + 1] as usize;
-    if let Some(j) = find_equal(image, derived, exprmap, stacks, e1, at, end) {
+    let at = expressions.places[e] as usize;
+    let end = expressions.places[e + 1] as usize;
+    if let Some(j) = find_equal(
+        source.image,
+        derived,
+        exprmap,
+        stacks,
+        expressions.base,
+        at,
+        end,
+    ) {
         exprmap[e] = (j + 1) as u16;
-        return derived.sizes;
+        return Ok(derived.sizes);
     }
-    append(image, places, derived, exprmap, stacks, offset, e1, k, e)
+    append(source, expressions, derived, exprmap, stacks, e)
 }
 
 // Pushes one word more of declarations, body or names.
-pub fn push(stacks: &mut StackRows, ends: Sizes, w: u32) -> Sizes
-    requires { Stacks stacks.old ends }
-    ensures { Pushed w stacks.old ends result stacks.new }
+pub fn push(stacks: &mut StackRows, ends: Sizes, w: u32) -> Result<Sizes, Full>
+    requires { Stacks stacks.old (going ends) }
+    ensures { Pushed w stacks.old (going ends) (told result) stacks.new }
 {
     let bodytop = ends.bodytop as usize;
     if bodytop == 16384 {
-        return mark_full(ends);
+        return Err(Full);
     }
     stacks[BODY][bodytop] = w;
-    let c = ends.counts;
-    Sizes {
-        full: false,
-        loglen: ends.loglen,
-        counts: c,
-        pairs: ends.pairs,
-        exprtop: ends.exprtop,
+    Ok(Sizes {
         bodytop: (bodytop + 1) as u16,
-        made: ends.made,
-    }
+        ..ends
+    })
 }

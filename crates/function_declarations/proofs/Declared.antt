@@ -11,7 +11,7 @@ use Rattle.model.specs.References.{target, moved}
 use Rattle.model.specs.Bodies.{Builder}
 use Rattle.derive_state.specs.Source.{Source}
 use Rattle.derive_state.specs.Held.{put, ValidArrays}
-use Rattle.derive_state.specs.declared.Sizes.{Sizes}
+use Rattle.derive_state.specs.Sizes.{Sizes}
 use Rattle.function_builder.specs.Stacks.{went_by, went_of}
 use Rattle.function_runs.specs.Copied.{Quiet, becomes, flag_of, Ran}
 use Rattle.function_runs.proofs.Quiets.{becomes-other}

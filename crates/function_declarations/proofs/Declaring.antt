@@ -19,7 +19,7 @@ use Rattle.theory_passes.specs.Light.{still}
 use Rattle.theory_image.specs.Betweens.{between_none, between_next}
 use Rattle.derive_state.specs.Source.{mod_of}
 use Rattle.derive_state.specs.Held.{ValidArrays}
-use Rattle.derive_state.specs.declared.Sizes.{Sizes}
+use Rattle.derive_state.specs.Sizes.{Sizes}
 use Rattle.function_references.specs.Fits.{FitN}
 use Rattle.function_outside.proofs.Passing.{legible_next, legible_here}
 use Rattle.function_references.specs.Cuts.{exprs_of}

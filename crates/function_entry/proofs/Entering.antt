@@ -28,7 +28,7 @@ use Rattle.derive_state.specs.Flats.{entry_of, no_entry}
 use Rattle.derive_state.specs.Source.{mod_of}
 use Rattle.derive_state.specs.Held.{table_of, entries_of, st_of, size_r, Over, ValidArrays, Same}
 use Rattle.derive_state.specs.Marks.{Marks}
-use Rattle.derive_state.specs.declared.Sizes.{Sizes}
+use Rattle.derive_state.specs.Sizes.{Sizes}
 use Rattle.derive_state.proofs.State.{same_refl, same_then, marks_refl, marks_then, size_r-append, table_long}
 use Rattle.derive_state.proofs.Laws.{none-held}
 use Rattle.function_parts.specs.Part.{entry}

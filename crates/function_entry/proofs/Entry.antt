@@ -35,7 +35,7 @@ use Rattle.derive_state.specs.Flats.{function_of, entry_of}
 use Rattle.derive_state.specs.Source.{mod_of, Source}
 use Rattle.derive_state.specs.Held.{row, table_of, recs_of, functions_of, st_of, size_r, Over, long, Named, ValidArrays, Same, ImportEnsures, carried_by}
 use Rattle.derive_state.specs.Marks.{Marks}
-use Rattle.derive_state.specs.declared.Sizes.{Sizes}
+use Rattle.derive_state.specs.Sizes.{Sizes}
 use Rattle.derive_state.proofs.Passes.{length-between}
 use Rattle.derive_state.proofs.State.{six_ext, code_low, same_then, marks_refl, marks_then, tab_long, words_are, table_stays, Joins, table_more, table_same, kept_more}
 use Rattle.derive_imports.proofs.Growth.{over_grow}

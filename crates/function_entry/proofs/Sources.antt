@@ -21,7 +21,7 @@ use Rattle.function_nesting.specs.Nested.{append_s, follow_s, ReadyF, Ready}
 use Rattle.function_nesting.specs.Theorems.{append_is, follow_is}
 use Rattle.derive_state.specs.Source.{mod_of}
 use Rattle.derive_state.specs.Held.{st_of}
-use Rattle.derive_state.specs.declared.Sizes.{Sizes}
+use Rattle.derive_state.specs.Sizes.{Sizes}
 use Rattle.function_references.specs.Fits.{Ground}
 use Rattle.function_localize.specs.Localized.{NestedF, NestedAt}
 use Rattle.derive_session.specs.Valid.{session_of, ValidSession}

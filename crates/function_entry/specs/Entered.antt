@@ -1,5 +1,5 @@
 -- What the import of an entry point, and of all of them, does to the arrays.
-use Rattle.std.specs.Prelude.{◌≡◌, true, false, ◌⊎◌, List, [], ◌∷◌, ◌++◌, ℕ, suc, ◌+◌, ◌≤◌, length, get_or}
+use Rattle.std.specs.Prelude.{◌≡◌, true, false, ◌⊎◌, List, [], ◌∷◌, ◌++◌, ℕ, suc, ◌+◌, ◌≤◌, length, get_or, Result}
 use Rattle.model.specs.Tree.{Entry}
 use Rattle.model.specs.Imports.{Derived}
 use Rattle.model.specs.Bodies.{enter_all, entries_made}
@@ -7,11 +7,14 @@ use Rattle.derive_limits.specs.Full.{Full}
 use Rattle.function_nesting.specs.Nested.{entered_s, entry_cells_s, ReadyF}
 use Rattle.function_nesting.specs.Entries.{EntryMade}
 use Rattle.derive_state.specs.Source.{mod_of}
-use Rattle.derive_state.specs.Held.{table_of, entries_of, st_of, size_r, Over, ValidArrays, Same}
+use Rattle.derive_state.specs.Held.{table_of, entries_of, st_of, size_r, Over, ValidArrays, Same, SameArrays}
 use Rattle.derive_state.specs.Marks.{Marks}
-use Rattle.derive_state.specs.declared.Sizes.{Sizes}
+use Rattle.derive_state.specs.Sizes.{Sizes, going, told}
 use Rattle.function_builder.specs.Stacks.{Stacks}
 use Rattle.function_words.specs.Runs.{Deep}
+use Rattle.derive_state.specs.declared.Full.{Full as Full'}
+use Rattle.derive_state.specs.declared.Sizes.{Sizes as Sizes'}
+use Rattle.derive_state.specs.declared.DerivedMut.{DerivedMut}
 
 -- an entry point whose function and callees can be imported
 pub record NestedE (words : List ℕ) (n : ℕ) (log logtags : List ℕ) (starts maps : List (List ℕ)) (e : Sizes) (o room : ℕ) (E : Entry) : Type 0 where
@@ -49,3 +52,13 @@ pub record EnterAllEnsures (words : List ℕ) (n o : ℕ) (special log₀ logtag
   pub log_long : length log ≡ 16384
   pub tags_long : length logtags ≡ 16384
   pub marks_stay : Marks buckets₀ buckets
+
+-- EnterEnsures of what an operation makes of a derived module and its sizes, in the caller's arrays
+pub record Enters (words : List ℕ) (n o : ℕ) (ready : ℕ → Derived → Type 0) (follow : ℕ → Derived → Derived) (E : Entry) (d : DerivedMut) (stacks₀ : List (List ℕ)) (e : Sizes') (r : Result Sizes' Full') (d' : DerivedMut) (stacks : List (List ℕ)) : Type 0 where
+  pub does : EnterEnsures words n o ready follow E d.log.now d.logtags.now d.starts.now d.maps.now d.buckets.now stacks₀ (going e) (told r) d'.log.now d'.logtags.now d'.starts.now d'.maps.now d'.buckets.now stacks
+  pub same : SameArrays d d'
+
+-- EnterAllEnsures of what an operation makes of a derived module and its sizes, in the caller's arrays
+pub record EntersAll (words : List ℕ) (n o : ℕ) (special : List ℕ) (d : DerivedMut) (e : Sizes') (r : Result Sizes' Full') (d' : DerivedMut) (stacks : List (List ℕ)) : Type 0 where
+  pub does : EnterAllEnsures words n o special d.log.now d.logtags.now d.starts.now d.maps.now d.buckets.now (going e) (told r) d'.log.now d'.logtags.now d'.starts.now d'.maps.now d'.buckets.now stacks
+  pub same : SameArrays d d'

@@ -22,7 +22,7 @@ use Rattle.theory_passes.specs.Light.{still}
 use Rattle.theory_image.specs.Betweens.{between_none, between_next}
 use Rattle.derive_state.specs.Source.{mod_of, src_of, refers_to, number_of}
 use Rattle.derive_state.specs.Held.{ValidArrays, ImportEnsures}
-use Rattle.derive_state.specs.declared.Sizes.{Sizes}
+use Rattle.derive_state.specs.Sizes.{Sizes}
 use Rattle.function_references.specs.Fits.{Legible, record_of}
 use Rattle.function_outside.proofs.Cells.{arrive_own, arrive_none, arrive-still, fit_own, fit-table}
 use Rattle.function_outside.proofs.Passing.{legible_next, legible_here}

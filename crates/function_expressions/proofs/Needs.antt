@@ -23,7 +23,7 @@ use Rattle.theory_passes.specs.Light.{still}
 use Rattle.theory_image.specs.Betweens.{between_next}
 use Rattle.derive_state.specs.Source.{mod_of}
 use Rattle.derive_state.specs.Held.{ValidArrays, ImportEnsures}
-use Rattle.derive_state.specs.declared.Sizes.{Sizes}
+use Rattle.derive_state.specs.Sizes.{Sizes}
 use Rattle.function_references.specs.Fits.{Fits, Legible}
 use Rattle.function_references.specs.Cuts.{exprs_of, Expressions}
 use Rattle.function_builder.specs.Stacks.{making_of, Under}

@@ -19,7 +19,7 @@ use Rattle.base_views.specs.Functions.{Standing, Body}
 use Rattle.derive_state.specs.Flats.{function_of}
 use Rattle.derive_state.specs.Source.{mod_of}
 use Rattle.derive_state.specs.Held.{row, table_of, st_of, size_r, ValidArrays}
-use Rattle.derive_state.specs.declared.Sizes.{Sizes}
+use Rattle.derive_state.specs.Sizes.{Sizes}
 use Rattle.derive_state.proofs.State.{table_stays}
 use Rattle.function_references.specs.Fits.{Ground}
 use Rattle.function_builder.specs.Stacks.{Stacks}

@@ -20,7 +20,7 @@ use Rattle.derive_state.specs.Flats.{function_of, special_of}
 use Rattle.derive_state.specs.Refers.{tab_of}
 use Rattle.derive_state.specs.Source.{mod_of}
 use Rattle.derive_state.specs.Held.{row, table_of, recs_of, functions_of, st_of, size_r, Over, long, many, crowd, keys, Named, ValidArrays}
-use Rattle.derive_state.specs.declared.Sizes.{Sizes}
+use Rattle.derive_state.specs.Sizes.{Sizes}
 use Rattle.derive_state.proofs.State.{Joins, code_low, six_ext, row_other, tab_long, table_long, table_more, table_same, words_are, kept_more, same_then, marks_refl}
 use Rattle.function_builder.proofs.Growth.{over_more}
 use Rattle.function_builder.proofs.Then.{kept_tops}

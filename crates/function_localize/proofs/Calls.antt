@@ -14,7 +14,7 @@ use Rattle.model.specs.Bodies.{known, Builder, bring, mapped_to, step}
 use Rattle.theory_passes.specs.Pass.{arrive, passed, word_of}
 use Rattle.derive_state.specs.Source.{mod_of}
 use Rattle.derive_state.specs.Held.{row, st_of, ValidArrays}
-use Rattle.derive_state.specs.declared.Sizes.{Sizes}
+use Rattle.derive_state.specs.Sizes.{Sizes}
 use Rattle.function_builder.specs.Stacks.{went_of, made_of, making_of, Under}
 use Rattle.function_builder.specs.Makes.{Pushed}
 use Rattle.function_builder.proofs.Stack.{made_low, made-same, under_same}

@@ -13,7 +13,7 @@ use Rattle.derive_state.specs.Refers.{code_p, target_of}
 use Rattle.derive_state.specs.Flats.{function_of}
 use Rattle.derive_state.specs.Source.{Source}
 use Rattle.derive_state.specs.Held.{put, ValidArrays}
-use Rattle.derive_state.specs.declared.Sizes.{Sizes}
+use Rattle.derive_state.specs.Sizes.{Sizes}
 use Rattle.function_references.specs.Cuts.{Expressions}
 use Rattle.function_outside.proofs.Passing.{legible_here}
 use Rattle.function_builder.specs.Stacks.{went_by}

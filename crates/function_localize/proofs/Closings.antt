@@ -20,7 +20,7 @@ use Rattle.theory_image.specs.Members.{each_at}
 use Rattle.theory_passes.specs.Pass.{arrive, passed, written, rows, front}
 use Rattle.derive_state.specs.Source.{mod_of}
 use Rattle.derive_state.specs.Held.{row, st_of}
-use Rattle.derive_state.specs.declared.Sizes.{Sizes}
+use Rattle.derive_state.specs.Sizes.{Sizes}
 use Rattle.derive_state.proofs.Passes.{length-between}
 use Rattle.function_parts.specs.Part.{Part, Indexed, front_is, front-run, body_is, body_run, order, long}
 use Rattle.function_names.specs.Named.{pairs_in}

@@ -19,7 +19,7 @@ use Rattle.theory_passes.specs.Pass.{front}
 use Rattle.theory_passes.specs.Light.{still}
 use Rattle.derive_state.specs.Source.{mod_of}
 use Rattle.derive_state.specs.Held.{row, table_of, st_of, size_r, Over, long, ValidArrays}
-use Rattle.derive_state.specs.declared.Sizes.{Sizes}
+use Rattle.derive_state.specs.Sizes.{Sizes}
 use Rattle.derive_state.proofs.State.{same_then, marks_then}
 use Rattle.derive_imports.proofs.Growth.{Grow}
 use Rattle.function_builder.specs.Stacks.{making_of}

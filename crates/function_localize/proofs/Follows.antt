@@ -12,7 +12,7 @@ use Rattle.model.specs.Bodies.{known}
 use Rattle.theory_bodies.specs.Context.{once_is}
 use Rattle.derive_state.specs.Source.{mod_of}
 use Rattle.derive_state.specs.Held.{st_of, ValidArrays}
-use Rattle.derive_state.specs.declared.Sizes.{Sizes}
+use Rattle.derive_state.specs.Sizes.{Sizes}
 use Rattle.derive_state.proofs.State.{same_refl, marks_refl}
 use Rattle.derive_lookup.specs.Bearing.{KnownEnsures}
 use Rattle.function_builder.specs.Stacks.{Stacks}

@@ -22,7 +22,7 @@ use Rattle.theory_passes.specs.Light.{still}
 use Rattle.derive_state.specs.Flats.{function_of}
 use Rattle.derive_state.specs.Source.{mod_of}
 use Rattle.derive_state.specs.Held.{row, st_of, ValidArrays}
-use Rattle.derive_state.specs.declared.Sizes.{Sizes}
+use Rattle.derive_state.specs.Sizes.{Sizes}
 use Rattle.function_references.specs.Fits.{FitN}
 use Rattle.function_outside.proofs.Passing.{legible_here}
 use Rattle.function_builder.specs.Stacks.{went_of, making_of, Stacks, Under}

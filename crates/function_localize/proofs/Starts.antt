@@ -24,7 +24,7 @@ use Rattle.theory_passes.proofs.Light.{still_grow_body}
 use Rattle.derive_state.specs.Flats.{function_of}
 use Rattle.derive_state.specs.Source.{mod_of}
 use Rattle.derive_state.specs.Held.{row, table_of, st_of, size_r, Over, ValidArrays}
-use Rattle.derive_state.specs.declared.Sizes.{Sizes}
+use Rattle.derive_state.specs.Sizes.{Sizes}
 use Rattle.derive_imports.proofs.Growth.{Grow}
 use Rattle.function_references.specs.Cuts.{cut, Rising}
 use Rattle.function_builder.specs.Stacks.{seats_of, made_of, making_of, Stacks, Under}

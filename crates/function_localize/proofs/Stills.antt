@@ -21,7 +21,7 @@ use Rattle.theory_passes.specs.Light.{still}
 use Rattle.derive_state.specs.Refers.{target_of}
 use Rattle.derive_state.specs.Source.{mod_of, refers_to}
 use Rattle.derive_state.specs.Held.{ValidArrays}
-use Rattle.derive_state.specs.declared.Sizes.{Sizes}
+use Rattle.derive_state.specs.Sizes.{Sizes}
 use Rattle.derive_state.proofs.State.{same_or}
 use Rattle.function_outside.proofs.Cells.{arrive_own, arrive_none, arrive-other, arrive-still}
 use Rattle.function_parts.specs.Part.{Part, Indexed}

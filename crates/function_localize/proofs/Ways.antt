@@ -26,7 +26,7 @@ use Rattle.theory_passes.proofs.Light.{still_grow_body}
 use Rattle.derive_state.specs.Source.{mod_of}
 use Rattle.derive_state.specs.Held.{row, table_of, st_of, size_r, Over, ValidArrays, Same}
 use Rattle.derive_state.specs.Marks.{Marks}
-use Rattle.derive_state.specs.declared.Sizes.{Sizes}
+use Rattle.derive_state.specs.Sizes.{Sizes}
 use Rattle.derive_state.proofs.Passes.{length-between}
 use Rattle.derive_state.proofs.State.{same_then, marks_then, table_stays}
 use Rattle.derive_imports.proofs.Growth.{Grow, over_grow}

@@ -1,5 +1,5 @@
 -- A function in progress, whole on the stacks; and a function imported with those that it calls.
-use Rattle.std.specs.Prelude.{◌≡◌, true, false, List, map, ℕ, ◌+◌, ◌≤◌, length}
+use Rattle.std.specs.Prelude.{◌≡◌, true, false, List, map, ℕ, ◌+◌, ◌≤◌, length, Result}
 use Rattle.std.proofs.Math.Seq.{slice}
 use Rattle.model.specs.Outcome.{word}
 use Rattle.model.specs.Tree.{Function, flat_all, flat_block}
@@ -9,11 +9,14 @@ use Rattle.model.specs.Imports.{Derived}
 use Rattle.theory_passes.specs.Pass.{front}
 use Rattle.function_nesting.specs.Nested.{walked_s, final_s, front_s, names_s, body_s, cells_s, ReadyFrom, ReadyF, Ready, follow_s, declared_s}
 use Rattle.derive_state.specs.Source.{mod_of}
-use Rattle.derive_state.specs.Held.{row, table_of, st_of, size_r, Over, ValidArrays, Same}
+use Rattle.derive_state.specs.Held.{row, table_of, st_of, size_r, Over, ValidArrays, Same, SameArrays}
 use Rattle.derive_state.specs.Marks.{Marks}
-use Rattle.derive_state.specs.declared.Sizes.{Sizes}
+use Rattle.derive_state.specs.Sizes.{Sizes, going, told}
 use Rattle.function_builder.specs.Stacks.{Stacks}
 use Rattle.function_words.specs.Runs.{Along, Deep}
+use Rattle.derive_state.specs.declared.Full.{Full as Full'}
+use Rattle.derive_state.specs.declared.Sizes.{Sizes as Sizes'}
+use Rattle.derive_state.specs.declared.DerivedMut.{DerivedMut}
 
 -- ---- a function of a source whose functions are in scope, with room for `room` functions in progress; each callee can be imported
 pub record Nested (words : List ℕ) (n : ℕ) (log logtags : List ℕ) (starts maps : List (List ℕ)) (e : Sizes) (o room : ℕ) (F : Function) : Type 0 where
@@ -69,3 +72,13 @@ pub record ImportFunctionEnsures (words : List ℕ) (ready : Derived → Type 0)
   pub log_long : length log ≡ 16384
   pub tags_long : length logtags ≡ 16384
   pub marks_stay : Marks buckets₀ buckets
+
+-- LocalizeEnsures of what an operation makes of a derived module and its sizes, in the caller's arrays
+pub record Localizes (words : List ℕ) (n o : ℕ) (ready : ℕ → Derived → Type 0) (follow : ℕ → Derived → Derived) (F : Function) (d : DerivedMut) (stacks₀ : List (List ℕ)) (e : Sizes') (r : Result Sizes' Full') (d' : DerivedMut) (stacks : List (List ℕ)) : Type 0 where
+  pub does : LocalizeEnsures words n o ready follow F d.log.now d.logtags.now d.starts.now d.maps.now d.buckets.now stacks₀ (going e) (told r) d'.log.now d'.logtags.now d'.starts.now d'.maps.now d'.buckets.now stacks
+  pub same : SameArrays d d'
+
+-- ImportFunctionEnsures of what an operation makes of a derived module and its sizes, in the caller's arrays
+pub record ImportsFunction (words : List ℕ) (ready : Derived → Type 0) (f : Derived → Derived) (d : DerivedMut) (stacks₀ : List (List ℕ)) (e : Sizes') (r : Result Sizes' Full') (d' : DerivedMut) (stacks : List (List ℕ)) : Type 0 where
+  pub does : ImportFunctionEnsures words ready f d.log.now d.logtags.now d.starts.now d.maps.now d.buckets.now stacks₀ (going e) (told r) d'.log.now d'.logtags.now d'.starts.now d'.maps.now d'.buckets.now stacks
+  pub same : SameArrays d d'

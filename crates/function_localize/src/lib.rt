@@ -12,19 +12,20 @@ ghost use Rattle.intake_initialisers.specs.Marks.{finds};
 ghost use Rattle.function_nesting.specs.Nested.{append_s, follow_s, Ready, ReadyF};
 ghost use Rattle.derive_state.specs.Flats.{function_of};
 ghost use Rattle.derive_state.specs.Source.{mod_of};
-ghost use Rattle.derive_state.specs.Held.{ValidArrays};
+ghost use Rattle.derive_state.specs.Held.{Valid};
 ghost use Rattle.function_references.specs.Fits.{Ground};
 ghost use Rattle.function_parts.specs.Part.{Part, Indexed};
 ghost use Rattle.function_builder.specs.Stacks.{Stacks};
-ghost use Rattle.function_localize.specs.Localized.{Nested, NestedF, NestedAt, LocalizeEnsures, ImportFunctionEnsures};
+ghost use Rattle.function_localize.specs.Localized.{Nested, NestedF, NestedAt, Localizes, ImportsFunction};
 ghost use Rattle.derive_state.specs.Refers.{target_bytes};
+ghost use Rattle.derive_state.specs.Sizes.{going, told};
 
 use base_classes::CALLEE;
 use base_views::{FUNCTIONS, Image, expressions_at};
 use base_words::Tags;
 use derive_lookup::known;
-use derive_state::{Buckets, Derived, Log, LogTags, Maps, Places, Sizes, StackRows, Starts};
-use function_builder::index;
+use derive_state::{DerivedMut, Full, Places, ShaderSource, Sizes, StackRows};
+use function_builder::{ExpressionIndex, index};
 use function_declarations::declare;
 use function_names::{import_names, keep_names};
 use function_passes::import_word;
@@ -34,18 +35,9 @@ use function_words::{advance, put_word};
 
 // The sizes with no expressions made yet.
 fn no_expressions(e: Sizes) -> Sizes
-    ensures { result ≡ record { full = false; loglen = e.loglen; counts = e.counts; pairs = e.pairs; exprtop = e.exprtop; bodytop = e.bodytop; made = 0 } }
+    ensures { result ≡ record { loglen = e.loglen; counts = e.counts; pairs = e.pairs; exprtop = e.exprtop; bodytop = e.bodytop; made = 0 } }
 {
-    let c = e.counts;
-    Sizes {
-        full: false,
-        loglen: e.loglen,
-        counts: c,
-        pairs: e.pairs,
-        exprtop: e.exprtop,
-        bodytop: e.bodytop,
-        made: 0,
-    }
+    Sizes { made: 0, ..e }
 }
 
 // Fills `places` with where each expression record starts, from `at` on, and where the last one ends; the rest is 0.
@@ -87,65 +79,53 @@ fn index_parts(image: Image, s: usize, end: usize, places: &mut Places) -> Parts
 // Puts the function from s to `end` whole on the stacks, with room for `room` functions in progress.
 #[cycle(append_follow_localize)]
 pub fn localize(
-    image: Image,
-    log: &mut Log,
-    logtags: &mut LogTags,
-    starts: &mut Starts,
-    maps: &mut Maps,
-    buckets: &mut Buckets,
+    source: ShaderSource,
+    derived: &mut DerivedMut,
     stacks: &mut StackRows,
     places: &mut Places,
     ends: Sizes,
-    offset: u32,
     s: usize,
     end: usize,
     room: usize,
-) -> Sizes
-    requires ground { Ground image.words.now image.tags.now target_bytes image.n }
-    requires part { Part image.words.now image.tags.now image.n s end (function_of (between image.tags.now image.words.now s end)) }
-    requires nested { Nested image.words.now image.n log.old logtags.old starts.old maps.old ends offset room (function_of (between image.tags.now image.words.now s end)) }
-    requires full_value { (ends.full ≡ false) × (Stacks stacks.old ends) }
-    requires valid_arrays { ValidArrays log.old logtags.old starts.old maps.old buckets.old ends }
-    ensures { LocalizeEnsures image.entry.words.now image.entry.n offset (Ready offset (mod_of image.entry.words.now image.entry.n) room) (follow_s offset (mod_of image.entry.words.now image.entry.n) room) (function_of (between image.entry.tags.now image.entry.words.now s end)) log.old logtags.old starts.old maps.old buckets.old stacks.old ends result log.new logtags.new starts.new maps.new buckets.new stacks.new }
+) -> Result<Sizes, Full>
+    requires ground { Ground source.image.words.now source.image.tags.now target_bytes source.image.n }
+    requires part { Part source.image.words.now source.image.tags.now source.image.n s end (function_of (between source.image.tags.now source.image.words.now s end)) }
+    requires nested { Nested source.image.words.now source.image.n derived.old.log.now derived.old.logtags.now derived.old.starts.now derived.old.maps.now (going ends) source.offset room (function_of (between source.image.tags.now source.image.words.now s end)) }
+    requires stacks { Stacks stacks.old (going ends) }
+    requires valid_arrays { Valid derived.old ends }
+    ensures { Localizes source.entry.image.words.now source.entry.image.n source.entry.offset (Ready source.entry.offset (mod_of source.entry.image.words.now source.entry.image.n) room) (follow_s source.entry.offset (mod_of source.entry.image.words.now source.entry.image.n) room) (function_of (between source.entry.image.tags.now source.entry.image.words.now s end)) derived.old stacks.old ends result derived.new stacks.new }
 {
     let e1 = ends.exprtop as usize;
     let mut exprmap = [0u16; 1024];
-    let at = index_parts(image, s, end, places);
+    let at = index_parts(source.image, s, end, places);
     let exprs = at.exprs;
     let k = at.count;
     let named = at.named;
     let mut e = declare(
-        image,
-        places,
-        log,
-        logtags,
-        starts,
-        maps,
-        buckets,
+        source,
+        ExpressionIndex {
+            places,
+            count: k,
+            base: e1,
+        },
+        derived,
         &mut exprmap,
         stacks,
         no_expressions(ends),
-        offset,
-        e1,
-        k,
         s,
         exprs,
-    );
-    if e.full {
-        return e;
-    }
+    )?;
     let mut i = at.body;
     let mut u = false;
     // a turn steps by the run that it finds
     while i < end {
         let r = copy_mapped_run(
-            image,
-            maps,
+            source,
+            derived.maps,
             &exprmap,
             stacks,
             e.made as usize,
             e.bodytop as usize,
-            offset,
             i,
             end,
             u,
@@ -156,113 +136,82 @@ pub fn localize(
         if i < end {
             let j = i;
             i += 1;
-            u = span_undefined(image, j, end, u);
-            if image.tags[j] == CALLEE {
+            u = span_undefined(source.image, j, end, u);
+            if source.image.tags[j] == CALLEE {
                 e = follow(
-                    image,
-                    log,
-                    logtags,
-                    starts,
-                    maps,
-                    buckets,
+                    source,
+                    derived,
                     stacks,
                     places,
                     e,
-                    offset,
-                    image.words[j] as usize,
+                    source.image.words[j] as usize,
                     room,
                     exprs + 1,
                     end,
-                );
-                if e.full {
-                    return e;
-                }
-                e = put_word(
-                    image,
-                    &Derived {
-                        log,
-                        logtags,
-                        starts,
-                        maps,
-                        buckets,
-                        sizes: e,
-                    },
-                    &exprmap,
-                    stacks,
-                    offset,
-                    j,
-                    u,
-                );
+                )?;
+                e = put_word(source, &derived.view(e), &exprmap, stacks, j, u)?;
             } else {
                 e = import_word(
-                    image,
-                    places,
-                    log,
-                    logtags,
-                    starts,
-                    maps,
-                    buckets,
+                    source,
+                    ExpressionIndex {
+                        places,
+                        count: k,
+                        base: e1,
+                    },
+                    derived,
                     &mut exprmap,
                     stacks,
                     e,
-                    offset,
-                    e1,
-                    k,
                     j,
                     end,
                     u,
-                );
-            }
-            if e.full {
-                return e;
+                )?;
             }
         }
     }
     let b = e.bodytop as usize;
-    let kept = keep_names(image.words, &exprmap, places, stacks, e, k, named);
-    if kept.full {
-        return kept;
-    }
-    import_names(
-        image, log, logtags, starts, maps, buckets, stacks, kept, offset, b,
-    )
+    let kept = keep_names(source.image.words, &exprmap, places, stacks, e, k, named)?;
+    import_names(source, derived, stacks, kept, b)
 }
 
 // Appends function f.
 #[cycle(append_follow_localize)]
 pub fn append(
-    image: Image,
-    log: &mut Log,
-    logtags: &mut LogTags,
-    starts: &mut Starts,
-    maps: &mut Maps,
-    buckets: &mut Buckets,
+    source: ShaderSource,
+    derived: &mut DerivedMut,
     stacks: &mut StackRows,
     places: &mut Places,
     ends: Sizes,
-    offset: u32,
     f: usize,
     room: usize,
-) -> Sizes
-    requires ground { Ground image.words.now image.tags.now target_bytes image.n }
-    requires f_bound { f < count_at 6 image.words.now }
-    requires nested_f { NestedF image.words.now image.n log.old logtags.old starts.old maps.old ends offset room (function (mod_of image.words.now image.n) f) }
-    requires full_value { (ends.full ≡ false) × (Stacks stacks.old ends) }
-    requires valid_arrays { ValidArrays log.old logtags.old starts.old maps.old buckets.old ends }
-    ensures { ImportFunctionEnsures image.entry.words.now (ReadyF offset (mod_of image.entry.words.now image.entry.n) (Ready offset (mod_of image.entry.words.now image.entry.n) room) (follow_s offset (mod_of image.entry.words.now image.entry.n) room) (function (mod_of image.entry.words.now image.entry.n) f)) (append_s offset (mod_of image.entry.words.now image.entry.n) (follow_s offset (mod_of image.entry.words.now image.entry.n) room) f) log.old logtags.old starts.old maps.old buckets.old stacks.old ends result log.new logtags.new starts.new maps.new buckets.new stacks.new }
+) -> Result<Sizes, Full>
+    requires ground { Ground source.image.words.now source.image.tags.now target_bytes source.image.n }
+    requires f_bound { f < count_at 6 source.image.words.now }
+    requires nested_f { NestedF source.image.words.now source.image.n derived.old.log.now derived.old.logtags.now derived.old.starts.now derived.old.maps.now (going ends) source.offset room (function (mod_of source.image.words.now source.image.n) f) }
+    requires stacks { Stacks stacks.old (going ends) }
+    requires valid_arrays { Valid derived.old ends }
+    ensures { ImportsFunction source.entry.image.words.now (ReadyF source.entry.offset (mod_of source.entry.image.words.now source.entry.image.n) (Ready source.entry.offset (mod_of source.entry.image.words.now source.entry.image.n) room) (follow_s source.entry.offset (mod_of source.entry.image.words.now source.entry.image.n) room) (function (mod_of source.entry.image.words.now source.entry.image.n) f)) (append_s source.entry.offset (mod_of source.entry.image.words.now source.entry.image.n) (follow_s source.entry.offset (mod_of source.entry.image.words.now source.entry.image.n) room) f) derived.old stacks.old ends result derived.new stacks.new }
 {
-    let s = image.record_at(FUNCTIONS, f);
-    let end = image.record_end(FUNCTIONS, f);
-    let got = localize(
-        image, log, logtags, starts, maps, buckets, stacks, places, ends, offset, s, end, room,
-    );
-    if got.full {
-        return got;
-    }
-    let exprs = expressions_at(image.words, s);
-    let body = image.body_at(s);
+    let s = source.image.record_at(FUNCTIONS, f);
+    let end = source.image.record_end(FUNCTIONS, f);
+    let got = localize(source, derived, stacks, places, ends, s, end, room)?;
+    let exprs = expressions_at(source.image.words, s);
+    let body = source.image.body_at(s);
     append_record(
-        image.tags, log, logtags, starts, stacks, got, ends, s, exprs, body, end, FUNCTIONS, 0, 256,
+        source.image.tags,
+        derived.log,
+        derived.logtags,
+        derived.starts,
+        stacks,
+        got,
+        ends,
+        s,
+        exprs,
+        body,
+        end,
+        FUNCTIONS,
+        0,
+        256,
     )
 }
 
@@ -270,67 +219,33 @@ pub fn append(
 // `at`, and which ends at `end`.
 #[cycle(append_follow_localize)]
 pub fn follow(
-    image: Image,
-    log: &mut Log,
-    logtags: &mut LogTags,
-    starts: &mut Starts,
-    maps: &mut Maps,
-    buckets: &mut Buckets,
+    source: ShaderSource,
+    derived: &mut DerivedMut,
     stacks: &mut StackRows,
     places: &mut Places,
     ends: Sizes,
-    offset: u32,
     f: usize,
     room: usize,
     at: usize,
     end: usize,
-) -> Sizes
-    requires ground { Ground image.words.now image.tags.now target_bytes image.n }
-    requires f_bound { f < count_at 6 image.words.now }
-    requires nested_at { NestedAt image.words.now image.n log.old logtags.old starts.old maps.old ends offset room f }
-    requires full_value { (ends.full ≡ false) × (Stacks stacks.old ends) }
-    requires valid_arrays { ValidArrays log.old logtags.old starts.old maps.old buckets.old ends }
-    requires tags_len { (length image.tags.now ≡ 16384) × (at ≤ end) × (end ≤ 16384) × (length (finds at (slice at end image.tags.now)) ≤ 1025) }
-    requires places_value { places.old ≡ sets (replicate 1025 0) 0 (finds at (slice at end image.tags.now)) }
-    ensures import_function_ensures { ImportFunctionEnsures image.entry.words.now (Ready offset (mod_of image.entry.words.now image.entry.n) room f) (follow_s offset (mod_of image.entry.words.now image.entry.n) room f) log.old logtags.old starts.old maps.old buckets.old stacks.old ends result log.new logtags.new starts.new maps.new buckets.new stacks.new }
-    ensures places_after { result.full ≡ false → places.new ≡ sets (replicate 1025 0) 0 (finds at (slice at end image.entry.tags.now)) }
+) -> Result<Sizes, Full>
+    requires ground { Ground source.image.words.now source.image.tags.now target_bytes source.image.n }
+    requires f_bound { f < count_at 6 source.image.words.now }
+    requires nested_at { NestedAt source.image.words.now source.image.n derived.old.log.now derived.old.logtags.now derived.old.starts.now derived.old.maps.now (going ends) source.offset room f }
+    requires stacks { Stacks stacks.old (going ends) }
+    requires valid_arrays { Valid derived.old ends }
+    requires tags_len { (length source.image.tags.now ≡ 16384) × (at ≤ end) × (end ≤ 16384) × (length (finds at (slice at end source.image.tags.now)) ≤ 1025) }
+    requires places_value { places.old ≡ sets (replicate 1025 0) 0 (finds at (slice at end source.image.tags.now)) }
+    ensures import_function_ensures { ImportsFunction source.entry.image.words.now (Ready source.entry.offset (mod_of source.entry.image.words.now source.entry.image.n) room f) (follow_s source.entry.offset (mod_of source.entry.image.words.now source.entry.image.n) room f) derived.old stacks.old ends result derived.new stacks.new }
+    ensures places_after { (told result).full ≡ false → places.new ≡ sets (replicate 1025 0) 0 (finds at (slice at end source.entry.image.tags.now)) }
 {
     if room == 0 {
-        return ends;
+        return Ok(ends);
     }
-    if known(
-        image,
-        &Derived {
-            log,
-            logtags,
-            starts,
-            maps,
-            buckets,
-            sizes: ends,
-        },
-        f,
-    )
-    .is_some()
-    {
-        return ends;
+    if known(source.image, &derived.view(ends), f).is_some() {
+        return Ok(ends);
     }
-    let got = append(
-        image,
-        log,
-        logtags,
-        starts,
-        maps,
-        buckets,
-        stacks,
-        places,
-        ends,
-        offset,
-        f,
-        room - 1,
-    );
-    if got.full {
-        return got;
-    }
-    index_expressions(image.tags, at, end, places);
-    got
+    let got = append(source, derived, stacks, places, ends, f, room - 1)?;
+    index_expressions(source.image.tags, at, end, places);
+    Ok(got)
 }

@@ -18,7 +18,7 @@ use Rattle.model.specs.Names.{field}
 use Rattle.model.specs.Bodies.{put_name, name_if, keep_names}
 use Rattle.theory_image.specs.Betweens.{slice-none}
 use Rattle.derive_state.specs.Held.{row, put}
-use Rattle.derive_state.specs.declared.Sizes.{Sizes}
+use Rattle.derive_state.specs.Sizes.{Sizes}
 use Rattle.derive_state.proofs.State.{same_or, row_other, put-row}
 use Rattle.function_builder.specs.Stacks.{Stacks}
 use Rattle.function_builder.specs.Makes.{Pushed}

@@ -21,7 +21,7 @@ use Rattle.theory_image.specs.Betweens.{slice-none}
 use Rattle.derive_state.specs.Source.{mod_of, src_of}
 use Rattle.derive_state.specs.Held.{row, cell, put, table_of, st_of, size_r, ValidArrays, Same, Beside, ImportEnsures}
 use Rattle.derive_state.specs.Marks.{Marks}
-use Rattle.derive_state.specs.declared.Sizes.{Sizes}
+use Rattle.derive_state.specs.Sizes.{Sizes}
 use Rattle.derive_state.proofs.State.{same_refl, same_then, marks_refl, marks_then, table_stays, row_other, put-row}
 use Rattle.derive_imports.proofs.Growth.{Grow, stay, then, over_grow, grow_T}
 use Rattle.derive_imports.proofs.Turns.{beside_refl, beside_then, map_is}

@@ -1,5 +1,5 @@
 -- The named expressions of a function that stay, as pairs on the stack of words, and their names imported.
-use Rattle.std.specs.Prelude.{◌≡◌, true, false, List, [], ◌∷◌, map, ℕ, zero, suc, ◌+◌, ◌*◌, ◌<◌, length, get_or, take}
+use Rattle.std.specs.Prelude.{◌≡◌, true, false, List, [], ◌∷◌, map, ℕ, zero, suc, ◌+◌, ◌*◌, ◌<◌, length, get_or, take, Result}
 use Rattle.std.proofs.Math.Seq.{slice}
 use Rattle.model.specs.Outcome.{Cells, word}
 use Rattle.model.specs.Table.{NAME, NAMED-EXPR}
@@ -9,9 +9,12 @@ use Rattle.model.specs.Bodies.{Builder}
 use Rattle.theory_passes.specs.Pass.{named, rows}
 use Rattle.theory_passes.specs.Light.{still}
 use Rattle.derive_state.specs.Source.{mod_of}
-use Rattle.derive_state.specs.Held.{row, st_of, ImportEnsures}
-use Rattle.derive_state.specs.declared.Sizes.{Sizes}
+use Rattle.derive_state.specs.Held.{row, st_of, ImportEnsures, SameArrays}
+use Rattle.derive_state.specs.Sizes.{Sizes, going, told}
 use Rattle.function_builder.specs.Stacks.{Stacks}
+use Rattle.derive_state.specs.declared.Full.{Full as Full'}
+use Rattle.derive_state.specs.declared.Sizes.{Sizes as Sizes'}
+use Rattle.derive_state.specs.declared.DerivedMut.{DerivedMut}
 
 -- ---- named expressions, as pairs on the stack of words
 unfoldable pub pair_words : List (ℕ × ℕ) → List ℕ
@@ -61,3 +64,8 @@ pub record ImportNamesEnsures (words : List ℕ) (n o b : ℕ) (log₀ logtags�
   pub below : r.full ≡ false → take b (row stacks 3) ≡ take b (row stacks₀ 3)
   pub expressions : (t : ℕ) → t < 3 → row stacks t ≡ row stacks₀ t
   pub stacks_are : r.full ≡ false → Stacks stacks r
+
+-- ImportNamesEnsures of what an operation makes of a derived module and its sizes, in the caller's arrays
+pub record ImportsNames (words : List ℕ) (n o b : ℕ) (d : DerivedMut) (stacks₀ : List (List ℕ)) (e : Sizes') (r : Result Sizes' Full') (d' : DerivedMut) (stacks : List (List ℕ)) : Type 0 where
+  pub does : ImportNamesEnsures words n o b d.log.now d.logtags.now d.starts.now d.maps.now d.buckets.now stacks₀ (going e) (told r) d'.log.now d'.logtags.now d'.starts.now d'.maps.now d'.buckets.now stacks
+  pub same : SameArrays d d'

@@ -1,19 +1,20 @@
 // The named expressions of a function that is imported: those that stay, each with its last name, and their names imported.
 #![tactic(auto)]
 
-ghost use Rattle.std.specs.Prelude.{◌≡◌, false, [], ℕ, suc, ◌+◌, ◌-◌, ◌*◌, ◌≤◌, ◌<◌, length, get_or, take};
+ghost use Rattle.std.specs.Prelude.{◌≡◌, [], ℕ, suc, ◌+◌, ◌-◌, ◌*◌, ◌≤◌, ◌<◌, length, get_or, take};
 ghost use Rattle.model.specs.Module.{count_at};
 ghost use Rattle.model.specs.Bodies.{keep_names};
-ghost use Rattle.derive_state.specs.Held.{row, ValidArrays};
+ghost use Rattle.derive_state.specs.Held.{row, Valid};
 ghost use Rattle.function_references.specs.Fits.{Ground};
 ghost use Rattle.function_builder.specs.Stacks.{Stacks};
-ghost use Rattle.function_names.specs.Named.{named_records, KeepNamesEnsures, ImportNamesEnsures};
+ghost use Rattle.function_names.specs.Named.{named_records, KeepNamesEnsures, ImportsNames};
 ghost use Rattle.derive_state.specs.Refers.{target_bytes};
+ghost use Rattle.derive_state.specs.Sizes.{going, told};
 
-use base_views::{Image, NAMES};
+use base_views::NAMES;
 use base_words::Words;
 use derive_imports::import;
-use derive_state::{Buckets, ExprMap, Log, LogTags, Maps, Sizes, StackRows, Starts, mark_full};
+use derive_state::{DerivedMut, ExprMap, Full, ShaderSource, Sizes, StackRows};
 use function_builder::{BODY, push};
 
 // The named expressions that stay, of those whose count is word `at`, each with its name's word in the source: the last name counts, in the first's place.
@@ -26,13 +27,13 @@ pub fn keep_names(
     ends: Sizes,
     k: usize,
     at: usize,
-) -> Sizes
+) -> Result<Sizes, Full>
     requires at_bound { (at < 16384) × (at + 2 * get_or words.now at 0 < 16384) × (length words.now ≡ 16384) }
-    requires k_bound { (k ≤ 1024) × (length exprmap.now ≡ 1024) × (ends.full ≡ false) }
+    requires k_bound { (k ≤ 1024) × (length exprmap.now ≡ 1024) }
     requires by_index { (i : ℕ) → i < get_or words.now at 0 → get_or words.now (at + 1 + 2 * i) 0 < k }
     requires by_index_2 { (x : ℕ) → get_or exprmap.now x 0 ≤ 1024 }
-    requires stacks { Stacks stacks.old ends }
-    ensures { KeepNamesEnsures (keep_names (named_records words.now (at + 1) (get_or words.now at 0)) (take k exprmap.now) []) stacks.old ends result stacks.new }
+    requires stacks { Stacks stacks.old (going ends) }
+    ensures { KeepNamesEnsures (keep_names (named_records words.now (at + 1) (get_or words.now at 0)) (take k exprmap.now) []) stacks.old (going ends) (told result) stacks.new }
 {
     *seats = [0; 1025];
     let b = ends.bodytop as usize;
@@ -45,61 +46,42 @@ pub fn keep_names(
             let j = seats[v - 1] as usize;
             if j == 0 {
                 if e.bodytop > 16382 {
-                    return mark_full(e);
+                    return Err(Full);
                 }
                 seats[v - 1] = ((e.bodytop as usize - b) / 2 + 1) as u16;
-                e = push(stacks, e, (v - 1) as u32);
-                e = push(stacks, e, words[q + 1]);
+                e = push(stacks, e, (v - 1) as u32)?;
+                e = push(stacks, e, words[q + 1])?;
             } else {
                 stacks[BODY][b + 2 * j - 1] = words[q + 1];
             }
         }
     }
-    e
+    Ok(e)
 }
 
 // Imports the names of the pairs that are on the stack from b on.
 pub fn import_names(
-    image: Image,
-    log: &mut Log,
-    logtags: &mut LogTags,
-    starts: &mut Starts,
-    maps: &mut Maps,
-    buckets: &mut Buckets,
+    source: ShaderSource,
+    derived: &mut DerivedMut,
     stacks: &mut StackRows,
     ends: Sizes,
-    offset: u32,
     b: usize,
-) -> Sizes
-    requires ground { Ground image.words.now image.tags.now target_bytes image.n }
-    requires b_le_bodytop { (b ≤ ends.bodytop) × (ends.full ≡ false) }
-    requires by_index { (i : ℕ) → b + 2 * i < ends.bodytop → (suc (b + 2 * i) < ends.bodytop) × (get_or (row stacks.old 3) (suc (b + 2 * i)) 0 ≤ count_at 0 image.words.now) }
-    requires stacks { Stacks stacks.old ends }
-    requires valid_arrays { ValidArrays log.old logtags.old starts.old maps.old buckets.old ends }
-    ensures { ImportNamesEnsures image.entry.words.now image.entry.n offset b log.old logtags.old starts.old maps.old buckets.old stacks.old ends result log.new logtags.new starts.new maps.new buckets.new stacks.new }
+) -> Result<Sizes, Full>
+    requires ground { Ground source.image.words.now source.image.tags.now target_bytes source.image.n }
+    requires b_le_bodytop { b ≤ ends.bodytop }
+    requires by_index { (i : ℕ) → b + 2 * i < ends.bodytop → (suc (b + 2 * i) < ends.bodytop) × (get_or (row stacks.old 3) (suc (b + 2 * i)) 0 ≤ count_at 0 source.image.words.now) }
+    requires stacks { Stacks stacks.old (going ends) }
+    requires valid_arrays { Valid derived.old ends }
+    ensures { ImportsNames source.entry.image.words.now source.entry.image.n source.entry.offset b derived.old stacks.old ends result derived.new stacks.new }
 {
     let mut e = ends;
     for i in (b..ends.bodytop as usize).step_by(2) {
         let j = i + 1;
         let w = stacks[BODY][j];
         if w != 0 {
-            e = import(
-                image,
-                log,
-                logtags,
-                starts,
-                maps,
-                buckets,
-                e,
-                offset,
-                NAMES,
-                w - 1,
-            );
-            if e.full {
-                return e;
-            }
-            stacks[BODY][j] = maps[NAMES][(w - 1) as usize];
+            e = import(source, derived, e, NAMES, w - 1)?;
+            stacks[BODY][j] = derived.maps[NAMES][(w - 1) as usize];
         }
     }
-    e
+    Ok(e)
 }

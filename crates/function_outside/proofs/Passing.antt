@@ -22,7 +22,7 @@ use Rattle.theory_image.specs.Betweens.{between_none, between_next}
 use Rattle.derive_state.specs.Source.{mod_of, src_of, refers_to, number_of}
 use Rattle.derive_state.specs.Held.{table_of, st_of, size_r, ValidArrays, Same, Beside, ImportEnsures}
 use Rattle.derive_state.specs.Marks.{Marks}
-use Rattle.derive_state.specs.declared.Sizes.{Sizes}
+use Rattle.derive_state.specs.Sizes.{Sizes}
 use Rattle.derive_state.proofs.Passes.{all_here, all-next}
 use Rattle.derive_state.proofs.State.{same_refl, same_then, marks_refl, marks_then, table_stays}
 use Rattle.derive_imports.proofs.Growth.{Grow, stay, then, over_grow, grow_T}

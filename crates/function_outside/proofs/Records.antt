@@ -13,7 +13,7 @@ use Rattle.model.specs.Imports.{Derived, import_t}
 use Rattle.derive_state.specs.Refers.{tab_of}
 use Rattle.derive_state.specs.Source.{Source, src_of}
 use Rattle.derive_state.specs.Held.{cell, st_of, ValidArrays, ImportEnsures}
-use Rattle.derive_state.specs.declared.Sizes.{Sizes}
+use Rattle.derive_state.specs.Sizes.{Sizes}
 use Rattle.derive_state.proofs.State.{same_refl, marks_refl}
 use Rattle.derive_imports.proofs.Turns.{beside_refl, turn-known}
 use Rattle.function_references.specs.Fits.{record_of}

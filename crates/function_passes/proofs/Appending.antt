@@ -1,16 +1,19 @@
 -- An Emit's second pass, one expression of the range at a turn: it is mapped, or appended.
-use mathlib.Core.Path.{◌≡◌}
+use mathlib.Core.Path.{◌≡◌, sym, subst}
 use mathlib.Core.Bool.{true, false}
 use mathlib.Core.List.{List}
 use Prim.Native.Nat.{ℕ, ◌+◌, ◌≤◌, ◌<◌}
 use native.Mathlib.Omega.{arith}
 use lib.ListN.{get_or}
 use Rattle.model.specs.Scope.{in_range}
-use Rattle.model.specs.Bodies.{each_e, append_expr}
+use Rattle.model.specs.Bodies.{Builder, each_e, append_expr}
 use Rattle.theory_passes.specs.Light.{still}
 use Rattle.derive_state.specs.Source.{mod_of}
 use Rattle.derive_state.specs.Held.{ValidArrays}
-use Rattle.derive_state.specs.declared.Sizes.{Sizes}
+use Rattle.std.specs.Prelude.{Result, Err}
+use Rattle.derive_state.specs.declared.Full.{Full}
+use Rattle.derive_state.specs.declared.Sizes.{Sizes as Sizes'}
+use Rattle.derive_state.specs.Sizes.{Sizes, told}
 use Rattle.function_references.specs.Cuts.{exprs_of, Expressions}
 use Rattle.function_builder.specs.Stacks.{Under}
 use Rattle.function_builder.specs.Makes.{Makes, Lays}
@@ -61,3 +64,8 @@ module _ {words tags : List ℕ} {n : ℕ} {places : List ℕ} {k o a b : ℕ} {
         ranging = λ buckets K. range_more K (R buckets K) less (turn buckets K) q;
         drawn = drawn_on X n o (K' p.0 p.1) ((R p.0 p.1).makes.under (R p.0 p.1).going) q low x (A.lays p.0 (K' p.0 p.1)) inv.drawn;
       }
+
+-- ---- an answer that is passed on
+pub refused : {words : List ℕ} {k : ℕ} {f : Builder → Builder} {log logtags : List ℕ} {starts maps : List (List ℕ)} {exprmap₀ : List ℕ} {stacks₀ : List (List ℕ)} {e₁ : ℕ} {e : Sizes} {exprmap : List ℕ} {stacks : List (List ℕ)} (r : Result Sizes' Full) (y : Full) → r ≡ Err y
+    → Lays words k f log logtags starts maps exprmap₀ stacks₀ e₁ e (told (Err y)) exprmap stacks → Lays words k f log logtags starts maps exprmap₀ stacks₀ e₁ e (told r) exprmap stacks
+refused {words} {k} {f} {log} {logtags} {starts} {maps} {exprmap₀} {stacks₀} {e₁} {e} {exprmap} {stacks} r y q L = subst (λ (r : Result Sizes' Full). Lays words k f log logtags starts maps exprmap₀ stacks₀ e₁ e (told r) exprmap stacks) (sym q) L

@@ -25,7 +25,7 @@ use Rattle.theory_passes.proofs.Growth.{Growing, grow_all, grow_peek, grow_glanc
 use Rattle.theory_passes.specs.Light.{still}
 use Rattle.derive_state.specs.Source.{mod_of}
 use Rattle.derive_state.specs.Held.{maps_of, st_of, ValidArrays}
-use Rattle.derive_state.specs.declared.Sizes.{Sizes}
+use Rattle.derive_state.specs.Sizes.{Sizes}
 use Rattle.derive_state.proofs.State.{code_low}
 use Rattle.function_references.specs.Fits.{Fits, FitN}
 use Rattle.function_references.specs.Cuts.{exprs_of, Expressions}

@@ -14,7 +14,7 @@ use Rattle.theory_passes.proofs.Growth.{grow_all, grow_need, grow_glance}
 use Rattle.theory_passes.specs.Light.{still}
 use Rattle.derive_state.specs.Source.{mod_of}
 use Rattle.derive_state.specs.Held.{ValidArrays}
-use Rattle.derive_state.specs.declared.Sizes.{Sizes}
+use Rattle.derive_state.specs.Sizes.{Sizes}
 use Rattle.function_references.specs.Cuts.{exprs_of}
 use Rattle.function_builder.specs.Stacks.{Under}
 use Rattle.function_builder.specs.Makes.{Makes, Pushed}

@@ -3,7 +3,7 @@
 // import nothing are written in runs.
 #![tactic(auto)]
 
-ghost use Rattle.std.specs.Prelude.{◌≡◌, false, List, [], ◌∷◌, ℕ, suc, ◌≤◌, ◌<◌, ◌+◌, length, get_or};
+ghost use Rattle.std.specs.Prelude.{◌≡◌, List, [], ◌∷◌, ℕ, suc, ◌≤◌, ◌<◌, ◌+◌, length, get_or};
 ghost use Rattle.model.specs.Between.{between, Stretch};
 ghost use Rattle.model.specs.References.{target, ref_of};
 ghost use Rattle.model.specs.Scope.{in_range};
@@ -12,22 +12,21 @@ ghost use Rattle.theory_records.specs.RecordLaws.{All};
 ghost use Rattle.theory_passes.specs.Pass.{arrive as arriveE, first, both, early, passed, word_of};
 ghost use Rattle.theory_passes.specs.Light.{still};
 ghost use Rattle.derive_state.specs.Source.{mod_of};
-ghost use Rattle.derive_state.specs.Held.{ValidArrays};
+ghost use Rattle.derive_state.specs.Held.{ValidArrays, Valid};
 ghost use Rattle.function_references.specs.Fits.{FitN, Ground, Legible};
 ghost use Rattle.function_references.specs.Cuts.{Expressions};
 ghost use Rattle.function_builder.specs.Stacks.{Under};
-ghost use Rattle.function_builder.specs.Makes.{Makes, Lays};
-ghost use Rattle.function_words.specs.Runs.{needs, glances, Bodied, Drawn, Runs};
+ghost use Rattle.function_builder.specs.Makes.{Lays, Builds};
+ghost use Rattle.function_words.specs.Runs.{needs, glances, Bodied, Drawn, Passes};
 ghost use Rattle.function_passes.specs.Compared.{compared};
 ghost use Rattle.derive_state.specs.Refers.{target_bytes};
+ghost use Rattle.derive_state.specs.Sizes.{going, told};
 
 use base_classes::{ATOMIC, EXPR, FROM, OPT_EXPR, STMT_KIND, TO};
 use base_views::{EXPRESSIONS, Image};
 use derive_imports::refers_to;
-use derive_state::{
-    Buckets, Derived, ExprMap, Log, LogTags, Maps, Places, Sizes, StackRows, Starts,
-};
-use function_builder::{append, push};
+use derive_state::{Derived, DerivedMut, ExprMap, Full, ShaderSource, Sizes, StackRows};
+use function_builder::{ExpressionIndex, append, push};
 use function_expressions::{import_operand, import_standing};
 use function_outside::import_record;
 use function_runs::atomic;
@@ -37,197 +36,129 @@ use function_words::put_word;
 // import_declaration_word does so of declarations, and merges the expression. One function for both would be no plainer: beside its fourteen parameters it would
 // take another that tells them apart, and its contract would say both.
 fn import_body_word(
-    image: Image,
-    places: &Places,
-    log: &mut Log,
-    logtags: &mut LogTags,
-    starts: &mut Starts,
-    maps: &mut Maps,
-    buckets: &mut Buckets,
+    source: ShaderSource,
+    expressions: ExpressionIndex,
+    derived: &mut DerivedMut,
     exprmap: &mut ExprMap,
     stacks: &mut StackRows,
     ends: Sizes,
-    offset: u32,
-    e1: usize,
-    k: usize,
     i: usize,
-) -> Sizes
-    requires ground { Ground image.words.now image.tags.now target_bytes image.n }
-    requires expressions { Expressions image.words.now image.tags.now places.now k }
-    requires i_bound { (i < 16384) × (All (FitN image.words.now k) (ref_of (target (get_or image.tags.now i 0)) (get_or image.words.now i 0) [])) }
-    requires full_value { ends.full ≡ false }
-    requires valid_arrays { ValidArrays log.old logtags.old starts.old maps.old buckets.old ends }
-    requires under { Under k exprmap.old stacks.old e1 ends }
-    ensures { Makes image.entry.words.now k (arriveE offset (mod_of image.entry.words.now image.entry.n) still (needs offset image.entry.words.now image.entry.tags.now image.entry.n places.now k) (glances offset image.entry.words.now image.entry.tags.now image.entry.n places.now k) (target (get_or image.entry.tags.now i 0)) (get_or image.entry.words.now i 0)) log.old logtags.old starts.old maps.old buckets.old exprmap.old stacks.old e1 ends result log.new logtags.new starts.new maps.new buckets.new exprmap.new stacks.new }
+) -> Result<Sizes, Full>
+    requires ground { Ground source.image.words.now source.image.tags.now target_bytes source.image.n }
+    requires expressions { Expressions source.image.words.now source.image.tags.now expressions.places.now expressions.count }
+    requires i_bound { (i < 16384) × (All (FitN source.image.words.now expressions.count) (ref_of (target (get_or source.image.tags.now i 0)) (get_or source.image.words.now i 0) [])) }
+    requires valid_arrays { Valid derived.old ends }
+    requires under { Under expressions.count exprmap.old stacks.old expressions.base (going ends) }
+    ensures { Builds source.entry.image.words.now expressions.entry.count (arriveE source.entry.offset (mod_of source.entry.image.words.now source.entry.image.n) still (needs source.entry.offset source.entry.image.words.now source.entry.image.tags.now source.entry.image.n expressions.entry.places.now expressions.entry.count) (glances source.entry.offset source.entry.image.words.now source.entry.image.tags.now source.entry.image.n expressions.entry.places.now expressions.entry.count) (target (get_or source.entry.image.tags.now i 0)) (get_or source.entry.image.words.now i 0)) derived.old exprmap.old stacks.old expressions.entry.base ends result derived.new exprmap.new stacks.new }
 {
-    let s = image.tags[i];
-    let r = refers_to(s, image.words[i]);
+    let s = source.image.tags[i];
+    let r = refers_to(s, source.image.words[i]);
     if s < EXPR {
-        return import_record(
-            image, log, logtags, starts, maps, buckets, ends, offset, r.table, r.number,
-        );
+        return import_record(source, derived, ends, r.table, r.number);
     }
     if r.table != EXPRESSIONS {
-        return ends;
+        return Ok(ends);
     }
     import_operand(
-        image,
-        places,
-        log,
-        logtags,
-        starts,
-        maps,
-        buckets,
+        source,
+        expressions,
+        derived,
         exprmap,
         stacks,
         ends,
-        offset,
-        e1,
-        k,
         r.number as usize,
     )
 }
 
 // An Emit's first pass over the expressions from a to b.
 fn first_pass(
-    image: Image,
-    places: &Places,
-    log: &mut Log,
-    logtags: &mut LogTags,
-    starts: &mut Starts,
-    maps: &mut Maps,
-    buckets: &mut Buckets,
+    source: ShaderSource,
+    expressions: ExpressionIndex,
+    derived: &mut DerivedMut,
     exprmap: &mut ExprMap,
     stacks: &mut StackRows,
     ends: Sizes,
-    offset: u32,
-    e1: usize,
-    k: usize,
     a: usize,
     b: usize,
-) -> Sizes
-    requires ground { Ground image.words.now image.tags.now target_bytes image.n }
-    requires expressions { Expressions image.words.now image.tags.now places.now k }
-    requires b_le_k { b ≤ k }
-    requires full_value { ends.full ≡ false }
-    requires valid_arrays { ValidArrays log.old logtags.old starts.old maps.old buckets.old ends }
-    requires under { Under k exprmap.old stacks.old e1 ends }
-    ensures { Makes image.entry.words.now k (each_e (in_range (record { from = a; to = b })) (glances offset image.entry.words.now image.entry.tags.now image.entry.n places.now k)) log.old logtags.old starts.old maps.old buckets.old exprmap.old stacks.old e1 ends result log.new logtags.new starts.new maps.new buckets.new exprmap.new stacks.new }
+) -> Result<Sizes, Full>
+    requires ground { Ground source.image.words.now source.image.tags.now target_bytes source.image.n }
+    requires expressions { Expressions source.image.words.now source.image.tags.now expressions.places.now expressions.count }
+    requires b_le_k { b ≤ expressions.count }
+    requires valid_arrays { Valid derived.old ends }
+    requires under { Under expressions.count exprmap.old stacks.old expressions.base (going ends) }
+    ensures { Builds source.entry.image.words.now expressions.entry.count (each_e (in_range (record { from = a; to = b })) (glances source.entry.offset source.entry.image.words.now source.entry.image.tags.now source.entry.image.n expressions.entry.places.now expressions.entry.count)) derived.old exprmap.old stacks.old expressions.entry.base ends result derived.new exprmap.new stacks.new }
 {
     let mut e = ends;
     for y in a..b {
-        e = import_standing(
-            image, places, log, logtags, starts, maps, buckets, exprmap, stacks, e, offset, e1, k,
-            y,
-        );
-        if e.full {
-            return e;
-        }
+        e = import_standing(source, expressions, derived, exprmap, stacks, e, y)?;
     }
-    e
+    Ok(e)
 }
 
 // Its second pass: what the expressions refer to outside was imported by the first, so what is not mapped is appended.
 fn second_pass(
-    image: Image,
-    places: &Places,
+    source: ShaderSource,
+    expressions: ExpressionIndex,
     derived: &Derived,
     exprmap: &mut ExprMap,
     stacks: &mut StackRows,
-    offset: u32,
-    e1: usize,
-    k: usize,
     a: usize,
     b: usize,
-) -> Sizes
-    requires ground { Ground image.words.now image.tags.now target_bytes image.n }
-    requires expressions { Expressions image.words.now image.tags.now places.now k }
-    requires b_le_k { b ≤ k }
-    requires full_value { derived.now.sizes.full ≡ false }
-    requires by_index { (buckets : List ℕ) × ValidArrays derived.now.log.now derived.now.logtags.now derived.now.starts.now derived.now.maps.now buckets derived.now.sizes }
-    requires under { Under k exprmap.old stacks.old e1 derived.now.sizes }
-    requires drawn { Drawn image.words.now image.tags.now places.now k derived.now.maps.now exprmap.old a b }
-    ensures { Lays image.entry.words.now k (each_e (in_range (record { from = a; to = b })) (needs offset image.entry.words.now image.entry.tags.now image.entry.n places.now k)) derived.now.log.now derived.now.logtags.now derived.now.starts.now derived.now.maps.now exprmap.old stacks.old e1 derived.now.sizes result exprmap.new stacks.new }
+) -> Result<Sizes, Full>
+    requires ground { Ground source.image.words.now source.image.tags.now target_bytes source.image.n }
+    requires expressions { Expressions source.image.words.now source.image.tags.now expressions.places.now expressions.count }
+    requires b_le_k { b ≤ expressions.count }
+    requires by_index { (buckets : List ℕ) × ValidArrays derived.now.log.now derived.now.logtags.now derived.now.starts.now derived.now.maps.now buckets (going derived.now.sizes) }
+    requires under { Under expressions.count exprmap.old stacks.old expressions.base (going derived.now.sizes) }
+    requires drawn { Drawn source.image.words.now source.image.tags.now expressions.places.now expressions.count derived.now.maps.now exprmap.old a b }
+    ensures { Lays source.entry.image.words.now expressions.entry.count (each_e (in_range (record { from = a; to = b })) (needs source.entry.offset source.entry.image.words.now source.entry.image.tags.now source.entry.image.n expressions.entry.places.now expressions.entry.count)) derived.now.log.now derived.now.logtags.now derived.now.starts.now derived.now.maps.now exprmap.old stacks.old expressions.entry.base (going derived.now.sizes) (told result) exprmap.new stacks.new }
 {
     let mut e = derived.sizes;
     for y in a..b {
         if exprmap[y] == 0 {
             e = append(
-                image,
-                places,
+                source,
+                expressions,
                 &Derived {
                     sizes: e,
                     ..*derived
                 },
                 exprmap,
                 stacks,
-                offset,
-                e1,
-                k,
                 y,
-            );
-            if e.full {
-                return e;
-            }
+            )?;
         }
     }
-    e
+    Ok(e)
 }
 
 // Both passes of an Emit over the expressions from a to b; its new start is how many expressions are made before the second.
 fn emit(
-    image: Image,
-    places: &Places,
-    log: &mut Log,
-    logtags: &mut LogTags,
-    starts: &mut Starts,
-    maps: &mut Maps,
-    buckets: &mut Buckets,
+    source: ShaderSource,
+    expressions: ExpressionIndex,
+    derived: &mut DerivedMut,
     exprmap: &mut ExprMap,
     stacks: &mut StackRows,
     ends: Sizes,
-    offset: u32,
-    e1: usize,
-    k: usize,
     a: usize,
     b: usize,
-) -> Sizes
-    requires ground { Ground image.words.now image.tags.now target_bytes image.n }
-    requires expressions { Expressions image.words.now image.tags.now places.now k }
-    requires b_le_k { b ≤ k }
-    requires full_value { ends.full ≡ false }
-    requires valid_arrays { ValidArrays log.old logtags.old starts.old maps.old buckets.old ends }
-    requires under { Under k exprmap.old stacks.old e1 ends }
-    ensures { Runs image.entry.words.now k (both offset (mod_of image.entry.words.now image.entry.n) still (needs offset image.entry.words.now image.entry.tags.now image.entry.n places.now k) (glances offset image.entry.words.now image.entry.tags.now image.entry.n places.now k) a b) (λ (m : Builder). length (first offset (mod_of image.entry.words.now image.entry.n) still (needs offset image.entry.words.now image.entry.tags.now image.entry.n places.now k) (glances offset image.entry.words.now image.entry.tags.now image.entry.n places.now k) a b m).made ∷ []) log.old logtags.old starts.old maps.old buckets.old exprmap.old stacks.old e1 ends result log.new logtags.new starts.new maps.new buckets.new exprmap.new stacks.new }
+) -> Result<Sizes, Full>
+    requires ground { Ground source.image.words.now source.image.tags.now target_bytes source.image.n }
+    requires expressions { Expressions source.image.words.now source.image.tags.now expressions.places.now expressions.count }
+    requires b_le_k { b ≤ expressions.count }
+    requires valid_arrays { Valid derived.old ends }
+    requires under { Under expressions.count exprmap.old stacks.old expressions.base (going ends) }
+    ensures { Passes source.entry.image.words.now expressions.entry.count (both source.entry.offset (mod_of source.entry.image.words.now source.entry.image.n) still (needs source.entry.offset source.entry.image.words.now source.entry.image.tags.now source.entry.image.n expressions.entry.places.now expressions.entry.count) (glances source.entry.offset source.entry.image.words.now source.entry.image.tags.now source.entry.image.n expressions.entry.places.now expressions.entry.count) a b) (λ (m : Builder). length (first source.entry.offset (mod_of source.entry.image.words.now source.entry.image.n) still (needs source.entry.offset source.entry.image.words.now source.entry.image.tags.now source.entry.image.n expressions.entry.places.now expressions.entry.count) (glances source.entry.offset source.entry.image.words.now source.entry.image.tags.now source.entry.image.n expressions.entry.places.now expressions.entry.count) a b m).made ∷ []) derived.old exprmap.old stacks.old expressions.entry.base ends result derived.new exprmap.new stacks.new }
 {
-    let got = first_pass(
-        image, places, log, logtags, starts, maps, buckets, exprmap, stacks, ends, offset, e1, k,
-        a, b,
-    );
-    if got.full {
-        return got;
-    }
+    let got = first_pass(source, expressions, derived, exprmap, stacks, ends, a, b)?;
     let from = got.made as u32;
-    let put = push(stacks, got, from);
-    if put.full {
-        return put;
-    }
+    let put = push(stacks, got, from)?;
     second_pass(
-        image,
-        places,
-        &Derived {
-            log,
-            logtags,
-            starts,
-            maps,
-            buckets,
-            sizes: put,
-        },
+        source,
+        expressions,
+        &derived.view(put),
         exprmap,
         stacks,
-        offset,
-        e1,
-        k,
         a,
         b,
     )
@@ -252,113 +183,72 @@ fn compare_operand(image: Image, i: usize, end: usize) -> Option<u32>
 
 // What an atomic statement compares, where its kind is word i.
 fn import_compare(
-    image: Image,
-    places: &Places,
-    log: &mut Log,
-    logtags: &mut LogTags,
-    starts: &mut Starts,
-    maps: &mut Maps,
-    buckets: &mut Buckets,
+    source: ShaderSource,
+    expressions: ExpressionIndex,
+    derived: &mut DerivedMut,
     exprmap: &mut ExprMap,
     stacks: &mut StackRows,
     ends: Sizes,
-    offset: u32,
-    e1: usize,
-    k: usize,
     i: usize,
     end: usize,
-) -> Sizes
-    requires ground { Ground image.words.now image.tags.now target_bytes image.n }
-    requires expressions { Expressions image.words.now image.tags.now places.now k }
-    requires legible { (Legible image.words.now image.tags.now k i end) × (i < end) }
-    requires full_value { ends.full ≡ false }
-    requires valid_arrays { ValidArrays log.old logtags.old starts.old maps.old buckets.old ends }
-    requires under { Under k exprmap.old stacks.old e1 ends }
-    ensures { Makes image.entry.words.now k (early offset (mod_of image.entry.words.now image.entry.n) still (needs offset image.entry.words.now image.entry.tags.now image.entry.n places.now k) (glances offset image.entry.words.now image.entry.tags.now image.entry.n places.now k) (get_or image.entry.words.now i 0) (between image.entry.tags.now image.entry.words.now (suc i) end)) log.old logtags.old starts.old maps.old buckets.old exprmap.old stacks.old e1 ends result log.new logtags.new starts.new maps.new buckets.new exprmap.new stacks.new }
+) -> Result<Sizes, Full>
+    requires ground { Ground source.image.words.now source.image.tags.now target_bytes source.image.n }
+    requires expressions { Expressions source.image.words.now source.image.tags.now expressions.places.now expressions.count }
+    requires legible { (Legible source.image.words.now source.image.tags.now expressions.count i end) × (i < end) }
+    requires valid_arrays { Valid derived.old ends }
+    requires under { Under expressions.count exprmap.old stacks.old expressions.base (going ends) }
+    ensures { Builds source.entry.image.words.now expressions.entry.count (early source.entry.offset (mod_of source.entry.image.words.now source.entry.image.n) still (needs source.entry.offset source.entry.image.words.now source.entry.image.tags.now source.entry.image.n expressions.entry.places.now expressions.entry.count) (glances source.entry.offset source.entry.image.words.now source.entry.image.tags.now source.entry.image.n expressions.entry.places.now expressions.entry.count) (get_or source.entry.image.words.now i 0) (between source.entry.image.tags.now source.entry.image.words.now (suc i) end)) derived.old exprmap.old stacks.old expressions.entry.base ends result derived.new exprmap.new stacks.new }
 {
-    if !atomic(image.words[i]) {
-        return ends;
+    if !atomic(source.image.words[i]) {
+        return Ok(ends);
     }
-    let Some(x) = compare_operand(image, i + 1, end) else {
-        return ends;
+    let Some(x) = compare_operand(source.image, i + 1, end) else {
+        return Ok(ends);
     };
     import_operand(
-        image, places, log, logtags, starts, maps, buckets, exprmap, stacks, ends, offset, e1, k,
+        source,
+        expressions,
+        derived,
+        exprmap,
+        stacks,
+        ends,
         x as usize,
     )
 }
 
 // Imports and writes word i of a body, with the words up to `end` after it; it names no function. u: whether the span last met is undefined.
 pub fn import_word(
-    image: Image,
-    places: &Places,
-    log: &mut Log,
-    logtags: &mut LogTags,
-    starts: &mut Starts,
-    maps: &mut Maps,
-    buckets: &mut Buckets,
+    source: ShaderSource,
+    expressions: ExpressionIndex,
+    derived: &mut DerivedMut,
     exprmap: &mut ExprMap,
     stacks: &mut StackRows,
     ends: Sizes,
-    offset: u32,
-    e1: usize,
-    k: usize,
     i: usize,
     end: usize,
     u: bool,
-) -> Sizes
-    requires ground { Ground image.words.now image.tags.now target_bytes image.n }
-    requires expressions { Expressions image.words.now image.tags.now places.now k }
-    requires bodied { (Bodied image.words.now image.tags.now k i end) × (i < end) }
-    requires full_value { ends.full ≡ false }
-    requires valid_arrays { ValidArrays log.old logtags.old starts.old maps.old buckets.old ends }
-    requires under { Under k exprmap.old stacks.old e1 ends }
-    ensures { Runs image.entry.words.now k (passed offset (mod_of image.entry.words.now image.entry.n) still (needs offset image.entry.words.now image.entry.tags.now image.entry.n places.now k) (glances offset image.entry.words.now image.entry.tags.now image.entry.n places.now k) (get_or image.entry.tags.now i 0, get_or image.entry.words.now i 0) (between image.entry.tags.now image.entry.words.now (suc i) end)) (λ (m : Builder). word_of offset (mod_of image.entry.words.now image.entry.n) still (needs offset image.entry.words.now image.entry.tags.now image.entry.n places.now k) (glances offset image.entry.words.now image.entry.tags.now image.entry.n places.now k) (get_or image.entry.tags.now i 0, get_or image.entry.words.now i 0) (between image.entry.tags.now image.entry.words.now (suc i) end) u m ∷ []) log.old logtags.old starts.old maps.old buckets.old exprmap.old stacks.old e1 ends result log.new logtags.new starts.new maps.new buckets.new exprmap.new stacks.new }
+) -> Result<Sizes, Full>
+    requires ground { Ground source.image.words.now source.image.tags.now target_bytes source.image.n }
+    requires expressions { Expressions source.image.words.now source.image.tags.now expressions.places.now expressions.count }
+    requires bodied { (Bodied source.image.words.now source.image.tags.now expressions.count i end) × (i < end) }
+    requires valid_arrays { Valid derived.old ends }
+    requires under { Under expressions.count exprmap.old stacks.old expressions.base (going ends) }
+    ensures { Passes source.entry.image.words.now expressions.entry.count (passed source.entry.offset (mod_of source.entry.image.words.now source.entry.image.n) still (needs source.entry.offset source.entry.image.words.now source.entry.image.tags.now source.entry.image.n expressions.entry.places.now expressions.entry.count) (glances source.entry.offset source.entry.image.words.now source.entry.image.tags.now source.entry.image.n expressions.entry.places.now expressions.entry.count) (get_or source.entry.image.tags.now i 0, get_or source.entry.image.words.now i 0) (between source.entry.image.tags.now source.entry.image.words.now (suc i) end)) (λ (m : Builder). word_of source.entry.offset (mod_of source.entry.image.words.now source.entry.image.n) still (needs source.entry.offset source.entry.image.words.now source.entry.image.tags.now source.entry.image.n expressions.entry.places.now expressions.entry.count) (glances source.entry.offset source.entry.image.words.now source.entry.image.tags.now source.entry.image.n expressions.entry.places.now expressions.entry.count) (get_or source.entry.image.tags.now i 0, get_or source.entry.image.words.now i 0) (between source.entry.image.tags.now source.entry.image.words.now (suc i) end) u m ∷ []) derived.old exprmap.old stacks.old expressions.entry.base ends result derived.new exprmap.new stacks.new }
 {
-    match image.tags[i] {
+    match source.image.tags[i] {
         FROM => {
-            let a = image.words[i] as usize;
-            let b = image.words[i + 1] as usize;
-            emit(
-                image, places, log, logtags, starts, maps, buckets, exprmap, stacks, ends, offset,
-                e1, k, a, b,
-            )
+            let a = source.image.words[i] as usize;
+            let b = source.image.words[i + 1] as usize;
+            emit(source, expressions, derived, exprmap, stacks, ends, a, b)
         }
         TO => push(stacks, ends, ends.made as u32),
         STMT_KIND => {
-            let got = import_compare(
-                image, places, log, logtags, starts, maps, buckets, exprmap, stacks, ends, offset,
-                e1, k, i, end,
-            );
-            if got.full {
-                return got;
-            }
-            push(stacks, got, image.words[i])
+            let got = import_compare(source, expressions, derived, exprmap, stacks, ends, i, end)?;
+            push(stacks, got, source.image.words[i])
         }
         _ => {
-            let got = import_body_word(
-                image, places, log, logtags, starts, maps, buckets, exprmap, stacks, ends, offset,
-                e1, k, i,
-            );
-            if got.full {
-                return got;
-            }
-            put_word(
-                image,
-                &Derived {
-                    log,
-                    logtags,
-                    starts,
-                    maps,
-                    buckets,
-                    sizes: got,
-                },
-                exprmap,
-                stacks,
-                offset,
-                i,
-                u,
-            )
+            let got = import_body_word(source, expressions, derived, exprmap, stacks, ends, i)?;
+            put_word(source, &derived.view(got), exprmap, stacks, i, u)
         }
     }
 }

@@ -12,7 +12,7 @@ use Rattle.model.specs.Outcome.{Cell, Cells, class, word}
 use Rattle.model.specs.Table.{NAME, NAMED-EXPR, EXPRESSIONS, NAMED}
 use Rattle.model.specs.Between.{beside, between}
 use Rattle.derive_state.specs.Held.{row, put, Written}
-use Rattle.derive_state.specs.declared.Sizes.{Sizes}
+use Rattle.derive_state.specs.Sizes.{Sizes}
 use Rattle.derive_state.proofs.State.{same_or, same_refl, wrote-same, wrote-log, wrote_tags, wrote_head, wrote-rec}
 use Rattle.function_builder.specs.Stacks.{Stacks}
 use Rattle.function_names.specs.Named.{pairs_in}

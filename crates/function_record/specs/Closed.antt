@@ -5,7 +5,7 @@ use Rattle.model.specs.Outcome.{Cells}
 use Rattle.model.specs.Table.{NAME, NAMED-EXPR, EXPRESSIONS, NAMED}
 use Rattle.model.specs.Between.{beside, between}
 use Rattle.derive_state.specs.Held.{row, put, rec_at, Same}
-use Rattle.derive_state.specs.declared.Sizes.{Sizes}
+use Rattle.derive_state.specs.Sizes.{Sizes}
 use Rattle.function_names.specs.Named.{pairs_in}
 
 -- ---- the record of what is on the stacks: front words whose classes are in the source from s on, expressions, named expressions, and a body whose classes are there from `body` on

@@ -1,18 +1,19 @@
 // The end of a function's import: the record that goes to the log, its parts in their order: declarations, expressions, named expressions, body.
 #![tactic(auto)]
 
-ghost use Rattle.std.specs.Prelude.{◌≡◌, false, ◌++◌, ℕ, ◌+◌, ◌-◌, ◌*◌, ◌/◌, ◌≤◌, ◌<◌, length, get_or};
+ghost use Rattle.std.specs.Prelude.{◌≡◌, ◌++◌, ℕ, ◌+◌, ◌-◌, ◌*◌, ◌/◌, ◌≤◌, ◌<◌, length, get_or};
 ghost use Rattle.std.proofs.Math.Seq.{slice};
 ghost use Rattle.std.proofs.lemmas.List.Edits.{sets};
 ghost use Rattle.model.specs.Between.{between};
 ghost use Rattle.derive_state.specs.Held.{row};
+ghost use Rattle.derive_state.specs.Sizes.{going, told};
 ghost use Rattle.function_builder.specs.Stacks.{Stacks};
 ghost use Rattle.function_names.specs.Named.{pairs_in};
 ghost use Rattle.function_record.specs.Closed.{named_classes, closing, AppendRecordEnsures};
 
 use base_classes::{EXPRESSIONS, NAME, NAMED, NAMED_EXPR};
 use base_words::Tags;
-use derive_state::{Log, LogTags, Sizes, StackRows, Starts, mark_full, words_left};
+use derive_state::{Full, Log, LogTags, Sizes, StackRows, Starts, words_left};
 use function_builder::{BODY, CLASSES, WORDS};
 
 // Copies `count` words of the row t of the stacks, from a on, to the log from p on.
@@ -109,7 +110,8 @@ fn copy_names(
 }
 
 // Appends the function on the stacks, above `before`, as a record of table t, which has at most `limit`, after the `head` words above its expressions. Its
-// declarations have the classes of the source's words from s to `exprs`, its body those from `body` to `end`.
+// declarations have the classes of the source's words from s to `exprs`, its body those from `body` to `end`. It takes the three arrays that it writes, not the
+// module: that maps and buckets stay needs no clause so.
 pub fn append_record(
     tags: &Tags,
     log: &mut Log,
@@ -125,14 +127,14 @@ pub fn append_record(
     t: usize,
     head: usize,
     limit: usize,
-) -> Sizes
+) -> Result<Sizes, Full>
     requires s_le_exprs { (s ≤ exprs) × (exprs ≤ body) × (body ≤ end) × (end ≤ 16384) × (length tags.now ≡ 16384) }
-    requires t_bound { (t < 8) × (limit ≤ 512) × (get_or ends.counts t 0 ≤ limit) × (ends.exprtop + head ≤ 16384) × (ends.made ≤ 16384) × (ends.full ≡ false) }
-    requires stacks { (Stacks stacks.now ends) × (before.exprtop ≤ ends.exprtop) × (before.bodytop + ((exprs - s) + (end - body)) ≤ ends.bodytop) }
+    requires t_bound { (t < 8) × (limit ≤ 512) × (get_or ends.counts t 0 ≤ limit) × (ends.exprtop + head ≤ 16384) × (ends.made ≤ 16384) }
+    requires stacks { (Stacks stacks.now (going ends)) × (before.exprtop ≤ ends.exprtop) × (before.bodytop + ((exprs - s) + (end - body)) ≤ ends.bodytop) }
     requires body_len { length (pairs_in (slice (before.bodytop + ((exprs - s) + (end - body))) ends.bodytop (row stacks.now 3))) * 2 + (before.bodytop + ((exprs - s) + (end - body))) ≡ ends.bodytop }
     requires by_index { (i : ℕ) → before.exprtop ≤ i → i < ends.exprtop + head → get_or (row stacks.now 1) i 0 < 256 }
     requires loglen_bound { (23 + 2 * ends.pairs + ends.loglen ≤ 16384) × (length log.old ≡ 16384) × (length logtags.old ≡ 16384) × (length starts.old ≡ 8) × (length (row starts.old t) ≡ 512) × (length ends.counts ≡ 8) }
-    ensures { AppendRecordEnsures (between (row stacks.now 1) (row stacks.now 0) ends.exprtop (ends.exprtop + head) ++ closing tags.now stacks.now before ends s exprs body end) limit t before ends log.old logtags.old starts.old result log.new logtags.new starts.new }
+    ensures { AppendRecordEnsures (between (row stacks.now 1) (row stacks.now 0) ends.exprtop (ends.exprtop + head) ++ closing tags.now stacks.now (going before) (going ends) s exprs body end) limit t (going before) (going ends) log.old logtags.old starts.old (told result) log.new logtags.new starts.new }
 {
     let front = exprs - s;
     let tail = end - body;
@@ -144,10 +146,10 @@ pub fn append_record(
     let size = head + front + 1 + made + 1 + names + tail;
     let count = ends.counts[t] as usize;
     if count == limit {
-        return mark_full(ends);
+        return Err(Full);
     }
     if words_left(ends) < 1 + size {
-        return mark_full(ends);
+        return Err(Full);
     }
     let loglen = ends.loglen as usize;
     let p = loglen + 1 + head;
@@ -174,13 +176,12 @@ pub fn append_record(
     starts[t][count] = loglen as u32;
     let mut c = ends.counts;
     c[t] = (count + 1) as u16;
-    Sizes {
-        full: false,
+    Ok(Sizes {
         loglen: (loglen + 1 + size) as u16,
         counts: c,
-        pairs: ends.pairs,
         exprtop: before.exprtop,
         bodytop: before.bodytop,
         made: before.made,
-    }
+        ..ends
+    })
 }

@@ -2,7 +2,7 @@
 // such, so the sizes of the tables need not be passed along with each of them.
 #![tactic(auto)]
 
-ghost use Rattle.std.specs.Prelude.{◌≡◌, true, false, List, [], ℕ, suc, ◌≤◌, ◌<◌, ◌+◌, length, get_or};
+ghost use Rattle.std.specs.Prelude.{◌≡◌, true, List, [], ℕ, suc, ◌≤◌, ◌<◌, ◌+◌, length, get_or};
 ghost use Rattle.model.specs.Table.{EXPR as EXPR'};
 ghost use Rattle.model.specs.Between.{between, Stretch};
 ghost use Rattle.model.specs.References.{target, ref_of, first_word, undefined_at};
@@ -17,7 +17,7 @@ ghost use Rattle.function_runs.specs.Copied.{Quiet, becomes, Ran};
 use base_classes::{EXPR, FROM, SPAN, STMT_KIND, TO};
 use base_views::{EXPRESSIONS, Image};
 use derive_imports::refers_to;
-use derive_state::{ExprMap, FUNCTION, Maps, NOTHING, StackRows, moved, target_of};
+use derive_state::{ExprMap, FUNCTION, Maps, NOTHING, ShaderSource, StackRows, moved, target_of};
 use function_builder::{BODY, by_maps};
 
 // Whether the span last met is undefined, once word i is read.
@@ -84,34 +84,33 @@ pub struct Reach {
 
 // Copies the words from `at` on to the stack of words, from `bodytop` on, as long as they need no import and there is room.
 pub fn copy_mapped_run(
-    image: Image,
+    source: ShaderSource,
     maps: &Maps,
     exprmap: &ExprMap,
     stacks: &mut StackRows,
     made: usize,
     bodytop: usize,
-    offset: u32,
     at: usize,
     end: usize,
     undefined: bool,
 ) -> Reach
     requires maps_len { length maps.now ≡ 6 }
-    requires legible { (Legible image.words.now image.tags.now 1024 at end) × (bodytop ≤ 16384) × (made ≤ 16384) }
-    ensures { Ran image.entry.words.now image.entry.tags.now maps.now exprmap.now (went_by maps.now exprmap.now) made offset at end bodytop undefined stacks.old result.at result.undefined stacks.new }
+    requires legible { (Legible source.image.words.now source.image.tags.now 1024 at end) × (bodytop ≤ 16384) × (made ≤ 16384) }
+    ensures { Ran source.entry.image.words.now source.entry.image.tags.now maps.now exprmap.now (went_by maps.now exprmap.now) made source.entry.offset at end bodytop undefined stacks.old result.at result.undefined stacks.new }
 {
     let mut u = undefined;
     for i in at..end {
         let p = bodytop + (i - at);
-        let s = image.tags[i];
-        let w = image.words[i];
+        let s = source.image.tags[i];
+        let w = source.image.words[i];
         if p == 16384 || !is_mapped_word(maps, exprmap, s, w) {
             return Reach {
                 at: i,
                 undefined: u,
             };
         }
-        u = span_undefined(image, i, end, u);
-        stacks[BODY][p] = carry(maps, exprmap, made, offset, s, w, u);
+        u = span_undefined(source.image, i, end, u);
+        stacks[BODY][p] = carry(maps, exprmap, made, source.offset, s, w, u);
     }
     Reach {
         at: end,

@@ -18,7 +18,7 @@ use Rattle.theory_passes.specs.Pass.{arrive, first, both, early, passed, word_of
 use Rattle.theory_passes.specs.Light.{still}
 use Rattle.derive_state.specs.Source.{mod_of}
 use Rattle.derive_state.specs.Held.{ValidArrays}
-use Rattle.derive_state.specs.declared.Sizes.{Sizes}
+use Rattle.derive_state.specs.Sizes.{Sizes}
 use Rattle.function_references.specs.Fits.{FitN}
 use Rattle.function_builder.specs.Stacks.{went_of, Under}
 use Rattle.function_builder.specs.Makes.{Makes, Pushed}

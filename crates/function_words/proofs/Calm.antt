@@ -20,7 +20,7 @@ use Rattle.theory_passes.specs.Light.{still}
 use Rattle.derive_state.specs.Refers.{target_of, tab_of}
 use Rattle.derive_state.specs.Source.{mod_of, src_of, Source, refers_to, number_of}
 use Rattle.derive_state.specs.Held.{put, st_of, ValidArrays, ImportEnsures}
-use Rattle.derive_state.specs.declared.Sizes.{Sizes}
+use Rattle.derive_state.specs.Sizes.{Sizes}
 use Rattle.derive_imports.proofs.Turns.{turn-known}
 use Rattle.function_references.specs.Fits.{FitN, Legible, record_of}
 use Rattle.function_references.specs.Cuts.{Expressions}

@@ -2,7 +2,7 @@
 use mathlib.Core.Path.{◌≡◌, refl, sym, ap, ◌∙◌}
 use mathlib.Core.Bool.{true, false, false≢true}
 use mathlib.Core.List.{List, [], ◌∷◌, ◌++◌}
-use Prim.Native.Nat.{ℕ, suc, ◌+◌, ◌-◌, ◌≤◌, ◌<◌}
+use Prim.Native.Nat.{ℕ, suc, ◌+◌, ◌≤◌, ◌<◌}
 use native.Mathlib.Nat.{le_refl, le_trans}
 use native.Mathlib.Numerals.{add-one}
 use native.Mathlib.Omega.{arith}
@@ -12,7 +12,7 @@ use Rattle.theory_lists.specs.Lists.{take_less}
 use Rattle.model.specs.Tree.{flat_all}
 use Rattle.model.specs.Bodies.{Builder}
 use Rattle.derive_state.specs.Held.{row, table_of, st_of, size_r, Over, long, ValidArrays}
-use Rattle.derive_state.specs.declared.Sizes.{Sizes}
+use Rattle.derive_state.specs.Sizes.{Sizes}
 use Rattle.derive_imports.proofs.Growth.{stay}
 use Rattle.derive_state.proofs.State.{same_refl, same_then, marks_refl, marks_then, table_stays, row_other, put-row}
 use Rattle.function_builder.specs.Stacks.{making_of, Stacks, Under}

@@ -23,7 +23,7 @@ use Rattle.theory_passes.specs.Light.{still}
 use Rattle.theory_image.specs.Betweens.{between_none, between_next}
 use Rattle.derive_state.specs.Source.{mod_of, src_of, refers_to, number_of}
 use Rattle.derive_state.specs.Held.{ValidArrays, ImportEnsures}
-use Rattle.derive_state.specs.declared.Sizes.{Sizes}
+use Rattle.derive_state.specs.Sizes.{Sizes}
 use Rattle.function_references.specs.Fits.{Fits, FitN, record_of}
 use Rattle.function_outside.proofs.Cells.{arrive-still, arrive_own, arrive_none, fit_own, fit-table}
 use Rattle.function_builder.specs.Stacks.{went_of, making_of, Under}

@@ -1,5 +1,5 @@
 -- What passing over words of a function does: to the builder, and to the stack of words.
-use Rattle.std.specs.Prelude.{◌≡◌, true, false, List, [], ℕ, suc, ◌+◌, ◌≤◌, ◌<◌, length, get_or, take}
+use Rattle.std.specs.Prelude.{◌≡◌, true, false, List, [], ℕ, suc, ◌+◌, ◌≤◌, ◌<◌, length, get_or, take, Result}
 use Rattle.std.proofs.Math.Seq.{slice}
 use Rattle.model.specs.Table.{FROM, TO, STMT_KIND}
 use Rattle.model.specs.Tree.{flat_all}
@@ -11,12 +11,15 @@ use Rattle.theory_bodies.specs.Shallow.{need, glance}
 use Rattle.theory_passes.specs.Light.{still}
 use Rattle.derive_state.specs.Refers.{target_of}
 use Rattle.derive_state.specs.Source.{mod_of}
-use Rattle.derive_state.specs.Held.{row, table_of, maps_of, size_r, Over, ValidArrays, Same}
+use Rattle.derive_state.specs.Held.{row, table_of, maps_of, size_r, Over, ValidArrays, Same, SameArrays}
 use Rattle.derive_state.specs.Marks.{Marks}
-use Rattle.derive_state.specs.declared.Sizes.{Sizes}
+use Rattle.derive_state.specs.Sizes.{Sizes, going, told}
 use Rattle.function_references.specs.Fits.{Legible}
 use Rattle.function_references.specs.Cuts.{exprs_of}
 use Rattle.function_builder.specs.Stacks.{making_of, Under}
+use Rattle.derive_state.specs.declared.Full.{Full as Full'}
+use Rattle.derive_state.specs.declared.Sizes.{Sizes as Sizes'}
+use Rattle.derive_state.specs.declared.DerivedMut.{DerivedMut}
 
 -- ---- how the expressions of a function are imported: those of initialisers, at a word of the body, in an Emit's first pass
 abbrev pub unites : ℕ → List ℕ → List ℕ → ℕ → List ℕ → ℕ → ℕ → Builder → Builder
@@ -80,3 +83,8 @@ pub record Runs (words : List ℕ) (k : ℕ) (f : Builder → Builder) (g : Buil
   pub log_long : length log ≡ 16384
   pub tags_long : length logtags ≡ 16384
   pub marks_stay : Marks buckets₀ buckets
+
+-- Runs of what an operation makes of a derived module and its sizes, in the caller's arrays
+pub record Passes (words : List ℕ) (k : ℕ) (f : Builder → Builder) (g : Builder → List ℕ) (d : DerivedMut) (exprmap₀ : List ℕ) (stacks₀ : List (List ℕ)) (e₁ : ℕ) (e : Sizes') (r : Result Sizes' Full') (d' : DerivedMut) (exprmap : List ℕ) (stacks : List (List ℕ)) : Type 0 where
+  pub does : Runs words k f g d.log.now d.logtags.now d.starts.now d.maps.now d.buckets.now exprmap₀ stacks₀ e₁ (going e) (told r) d'.log.now d'.logtags.now d'.starts.now d'.maps.now d'.buckets.now exprmap stacks
+  pub same : SameArrays d d'

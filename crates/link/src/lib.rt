@@ -9,7 +9,7 @@ ghost use Rattle.base_refusals.specs.Numbers.{ended};
 use base_refusals::{Refusal, answer};
 use base_views::Image;
 use base_words::{Tags, Words};
-use derive_state::{Buckets, Log, LogTags, Maps, StackRows, Starts};
+use derive_state::{Buckets, DerivedMut, Log, LogTags, Maps, StackRows, Starts};
 use link_words::link_in_order;
 use order_callees::order_of;
 
@@ -20,15 +20,11 @@ fn linked_in(
     output: &mut [u8],
     words: &mut Words,
     tags: &mut Tags,
-    log: &mut Log,
-    logtags: &mut LogTags,
-    starts: &mut Starts,
-    maps: &mut Maps,
-    buckets: &mut Buckets,
+    derived: &mut DerivedMut,
     stacks: &mut StackRows,
 ) -> Result<u32, Refusal>
     requires words_len { (length words.old ≡ 16384) × (length tags.old ≡ 16384) }
-    requires scratch_lengths { ScratchLengths log.old logtags.old starts.old stacks.old }
+    requires scratch_lengths { ScratchLengths derived.old.log.now derived.old.logtags.now derived.old.starts.now stacks.old }
     ensures { LinkEnsures (answer_by (λ v. v) (ended result)) output.old output.new image.now }
 {
     let n = intake::take_in(image, words, tags)?;
@@ -37,9 +33,7 @@ fn linked_in(
     }
     let mut order = [0u32; 256];
     order_of(Image { words, tags, n }, &mut order)?;
-    link_in_order(
-        words, tags, n, &order, output, log, logtags, starts, maps, buckets, stacks,
-    )
+    link_in_order(words, tags, n, &order, output, derived, stacks)
 }
 
 // The same, its answer as one number: low half the refusal, 0 accepted; high half the bytes written, or with 12 the functions left.
@@ -60,25 +54,33 @@ pub fn link_in(
     requires scratch_lengths { ScratchLengths log.old logtags.old starts.old stacks.old }
     ensures { LinkEnsures result output.old output.new image.now }
 {
-    answer(linked_in(
-        image, output, words, tags, log, logtags, starts, maps, buckets, stacks,
-    ))
+    let mut derived = DerivedMut {
+        log,
+        logtags,
+        starts,
+        maps,
+        buckets,
+    };
+    answer(linked_in(image, output, words, tags, &mut derived, stacks))
 }
 
 // The bytes written or the refusal, in arrays of its own.
 pub fn linked(image: &[u8], output: &mut [u8]) -> Result<u32, Refusal>
     ensures { LinkEnsures (answer_by (λ v. v) (ended result)) output.old output.new image.now }
 {
+    let mut derived = DerivedMut {
+        log: &mut [0; 16384],
+        logtags: &mut [0; 16384],
+        starts: &mut [[0; 512]; 8],
+        maps: &mut [[0; 512]; 6],
+        buckets: &mut [0; 16384],
+    };
     linked_in(
         image,
         output,
         &mut [0; 16384],
         &mut [0; 16384],
-        &mut [0; 16384],
-        &mut [0; 16384],
-        &mut [[0; 512]; 8],
-        &mut [[0; 512]; 6],
-        &mut [0; 16384],
+        &mut derived,
         &mut [[0; 16384]; 4],
     )
 }

@@ -27,7 +27,7 @@ use Rattle.order_callees.proofs.Whole.{few}
 use Rattle.derive_state.specs.Refers.{tab_of}
 use Rattle.derive_state.specs.Source.{mod_of}
 use Rattle.derive_state.specs.Held.{table_of, st_of, size_r, Over, ValidArrays}
-use Rattle.derive_state.specs.declared.Sizes.{Sizes}
+use Rattle.derive_state.specs.Sizes.{Sizes}
 use Rattle.derive_state.proofs.Laws.{none-held}
 use Rattle.derive_state.proofs.State.{tab_long}
 use Rattle.derive_special.proofs.Deriving.{specials_more}

@@ -22,13 +22,13 @@ use Rattle.theory_link.specs.Demand.{Output}
 use Rattle.derive_state.specs.Refers.{target_bytes}
 use Rattle.derive_state.specs.Source.{mod_of, Source}
 use Rattle.derive_state.specs.Held.{st_of, Over, ValidArrays, Specials}
-use Rattle.derive_state.specs.declared.Sizes.{Sizes}
+use Rattle.derive_state.specs.Sizes.{Sizes}
 use Rattle.derive_state.proofs.Laws.{none-held}
 use Rattle.derive_state.proofs.Fresh.{kept-nothing, st_nothing}
 use Rattle.derive_session.specs.Fresh.{valid_new, zeros}
 use Rattle.derive_source.specs.SourceSet.{SourceTypesEnsures}
 use Rattle.function_builder.specs.Stacks.{Stacks}
-use Rattle.derive_finish.specs.Told.{told, Held, Ended}
+use Rattle.derive_finish.specs.Told.{told, Ended}
 use Rattle.derive_finish.specs.Theorems.{finish_with_told}
 use Rattle.derive_session.specs.Valid.{session_of, ValidSession}
 use Rattle.model.specs.Image.{ScratchLengths}
@@ -88,7 +88,7 @@ module _ (words tags : List ℕ) (n : ℕ) (order output₀ : List ℕ) (K : Lin
       bare : (get_or e.counts 7 0 ≡ 0) × (e.exprtop ≡ 0) × (e.bodytop ≡ 0)
       bare = (ap (λ (y : Sizes). get_or y.counts 7 0) es, ap (λ (y : Sizes). y.exprtop) es, ap (λ (y : Sizes). y.bodytop) es)
 
-      set_room : r.full ≡ false
+      pub set_room : r.full ≡ false
       set_room = never r.full λ q. set_fits (4 * length (take n words)) (take n words) (mod_of words n) K.linking.passes K.linking.reads start_at gives.session.sets
           (subst (λ (y : Derived). Over 0 y) (fresh-sourced log₀ logtags₀ starts₀ buckets₀ stacks₀ P marks_long (mod_of words n) e es words) (subst (λ (k : ℕ). Over k (sourced 0 (mod_of words n) (st_of words log₀ logtags₀ starts₀ unmade (replicate 1027 0) e))) (none-held log₀ logtags₀ starts₀ e.counts bare.0).1 (S.over q words unmade)))
 
@@ -145,11 +145,8 @@ module _ (words tags : List ℕ) (n : ℕ) (order output₀ : List ℕ) (K : Lin
 
           -- ---- the entry points are entered
           module _ (r₃ : Sizes) (log₃ logtags₃ : List ℕ) (starts₃ maps₃ : List (List ℕ)) (buckets₃ : List ℕ) (stacks₃ : List (List ℕ)) (T : EnterAllEnsures words n 0 special log₂ logtags₂ starts₂ maps₂ buckets₂ r₂ r₃ log₃ logtags₃ starts₃ maps₃ buckets₃ stacks₃) where
-            enter_room : r₃.full ≡ false
+            pub enter_room : r₃.full ≡ false
             enter_room = never r₃.full λ q. finish_fits (mod_of words n) os K.sequence.is (length output₀) s₂ vs (at n 0 words tags targets log₂ logtags₂ starts₂ maps₂ buckets₂ special r₂ A.live) finishes (T.over q)
-
-            pub finish_asks : Held log₃ logtags₃ starts₃ r₃ × (length special ≡ 1027) × (length words ≡ 16384)
-            finish_asks = (record { maps = maps₃; buckets = buckets₃; kept = T.kept enter_room }, A.live.specials.special_long, K.source_is.taped.words_long)
 
             -- ---- it is finished
             module _ (refusal bytes : ℕ) (output : List ℕ) (D : Ended log₃ logtags₃ starts₃ special r₃ output₀ refusal bytes output) where

@@ -1,5 +1,5 @@
 -- Linking in an order: what appending all functions in output order leaves of a valid session, and what is answered. No import makes the session too large.
-use Rattle.std.specs.Prelude.{◌≡◌, true, List, [], ◌∷◌, ℕ, ◌<◌, length, take}
+use Rattle.std.specs.Prelude.{◌≡◌, true, List, [], ◌∷◌, ℕ, ◌<◌, length, take, Result}
 use Rattle.std.proofs.lemmas.List.Edits.{sets}
 use Rattle.base_words.specs.Words.{bytes_of}
 use Rattle.model.specs.Module.{Module, count_at, write}
@@ -11,8 +11,11 @@ use Rattle.model.specs.Refusals.{done}
 use Rattle.model.specs.Link.{append_all, link_by, link_answer}
 use Rattle.theory_link.specs.Demand.{Linking}
 use Rattle.derive_state.specs.Source.{mod_of, Source}
-use Rattle.derive_state.specs.Held.{st_of, Over}
-use Rattle.derive_state.specs.declared.Sizes.{Sizes}
+use Rattle.derive_state.specs.Held.{st_of, Over, SameArrays}
+use Rattle.derive_state.specs.Sizes.{Sizes, going, told}
+use Rattle.derive_state.specs.declared.Full.{Full as Full'}
+use Rattle.derive_state.specs.declared.Sizes.{Sizes as Sizes'}
+use Rattle.derive_state.specs.declared.DerivedMut.{DerivedMut}
 use Rattle.function_builder.specs.Stacks.{Stacks}
 use Rattle.derive_session.specs.Valid.{ValidSession}
 
@@ -32,6 +35,11 @@ pub record AppendAllEnsures (words tags targets : List ℕ) (n : ℕ) (is log₀
   pub same : append_all is 0 (mod_of words n) (st_of words log₀ logtags₀ starts₀ maps₀ special e) ≡ st_of words log logtags starts maps special r
   pub live : ValidSession true n 0 words tags targets log logtags starts maps buckets special r
   pub stacks_are : Stacks stacks r
+
+-- the same of a derived module in the caller's arrays
+pub record AppendsAll (words tags targets : List ℕ) (n : ℕ) (is : List ℕ) (d : DerivedMut) (special : List ℕ) (e : Sizes') (r : Result Sizes' Full') (d' : DerivedMut) (stacks : List (List ℕ)) : Type 0 where
+  pub does : AppendAllEnsures words tags targets n is d.log.now d.logtags.now d.starts.now d.maps.now (going e) (told r) d'.log.now d'.logtags.now d'.starts.now d'.maps.now d'.buckets.now special stacks
+  pub same : SameArrays d d'
 
 -- words and tags of an image that passed intake, the order of its functions, and an output that is no shorter
 pub record Linkable (words tags : List ℕ) (n : ℕ) (order output : List ℕ) : Type 0 where

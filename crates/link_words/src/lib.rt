@@ -10,117 +10,81 @@ ghost use Rattle.derive_state.specs.Held.{st_of};
 ghost use Rattle.function_builder.specs.Stacks.{Stacks};
 ghost use Rattle.derive_session.specs.Valid.{ValidSession};
 ghost use Rattle.model.specs.Image.{ScratchLengths};
-ghost use Rattle.link_words.specs.Appends.{Roomy, Sequence, AppendAllEnsures, Linkable, LinkInOrderEnsures};
+ghost use Rattle.link_words.specs.Appends.{Roomy, Sequence, AppendsAll, Linkable, LinkInOrderEnsures};
 ghost use Rattle.derive_state.specs.Refers.{target_bytes};
+ghost use Rattle.derive_state.specs.Sizes.{going};
 
 use base_refusals::Refusal;
 use base_views::{FUNCTIONS, Image, count};
 use base_words::{Tags, Words};
 use derive_source::source_types;
-use derive_state::{
-    Buckets, Derived, Log, LogTags, Maps, Sizes, Special, StackRows, Starts, empty,
-};
+use derive_state::{DerivedMut, Full, ShaderSource, Sizes, Special, StackRows, empty};
 use function_entry::enter_all;
 use function_localize::append;
 
 // Appends the first `all` functions of the order.
 fn append_all(
     image: Image,
-    log: &mut Log,
-    logtags: &mut LogTags,
-    starts: &mut Starts,
-    maps: &mut Maps,
-    buckets: &mut Buckets,
+    derived: &mut DerivedMut,
     special: &Special,
     stacks: &mut StackRows,
     ends: Sizes,
     order: &[u32; 256],
     all: usize,
-) -> Sizes
-    requires valid_session { ValidSession true image.n 0 image.words.now image.tags.now target_bytes log.old logtags.old starts.old maps.old buckets.old special.now ends }
-    requires stacks { Stacks stacks.old ends }
+) -> Result<Sizes, Full>
+    requires valid_session { ValidSession true image.n 0 image.words.now image.tags.now target_bytes derived.old.log.now derived.old.logtags.now derived.old.starts.now derived.old.maps.now derived.old.buckets.now special.now (going ends) }
+    requires stacks { Stacks stacks.old (going ends) }
     requires sequence { Sequence image.words.now image.n order.now all }
-    requires roomy { Roomy (mod_of image.words.now image.n) (take all order.now) (st_of image.words.now log.old logtags.old starts.old maps.old special.now ends) }
-    ensures { AppendAllEnsures image.entry.words.now image.entry.tags.now target_bytes image.entry.n (take all order.now) log.old logtags.old starts.old maps.old ends result log.new logtags.new starts.new maps.new buckets.new special.now stacks.new }
+    requires roomy { Roomy (mod_of image.words.now image.n) (take all order.now) (st_of image.words.now derived.old.log.now derived.old.logtags.now derived.old.starts.now derived.old.maps.now special.now (going ends)) }
+    ensures { AppendsAll image.entry.words.now image.entry.tags.now target_bytes image.entry.n (take all order.now) derived.old special.now ends result derived.new stacks.new }
 {
+    let source = ShaderSource { image, offset: 0 };
     let mut e = ends;
     let mut places = [0u16; 1025];
     for j in 0..all {
         e = append(
-            image,
-            log,
-            logtags,
-            starts,
-            maps,
-            buckets,
+            source,
+            derived,
             stacks,
             &mut places,
             e,
-            0,
             order[j] as usize,
             all,
-        );
+        )?;
     }
-    e
+    Ok(e)
 }
 
-// Links in that order, in the caller's arrays. Finishing no longer needs the image's words, so it uses their array as scratch memory.
+// Links in that order, in the caller's arrays. Finishing no longer needs the image's words, so it uses their array as scratch memory. What is imported always fits,
+// as the contracts of the three imports say, so that the refusals for a full module are never given.
 pub fn link_in_order(
     words: &mut Words,
     tags: &Tags,
     n: usize,
     order: &[u32; 256],
     output: &mut [u8],
-    log: &mut Log,
-    logtags: &mut LogTags,
-    starts: &mut Starts,
-    maps: &mut Maps,
-    buckets: &mut Buckets,
+    derived: &mut DerivedMut,
     stacks: &mut StackRows,
 ) -> Result<u32, Refusal>
     requires linkable { Linkable words.old tags.now n order.now output.old }
-    requires scratch_lengths { ScratchLengths log.old logtags.old starts.old stacks.old }
+    requires scratch_lengths { ScratchLengths derived.old.log.now derived.old.logtags.now derived.old.starts.now stacks.old }
     ensures { LinkInOrderEnsures words.old n order.now output.old (answer_by (λ v. v) (ended result)) output.new }
 {
     let mut special = [0u32; 1027];
     // buckets left by another image would only cost time; the answer does not depend on them
-    *buckets = [0; 16384];
+    *derived.buckets = [0; 16384];
     let image = Image { words, tags, n };
-    let set = source_types(
-        image,
-        log,
-        logtags,
-        starts,
-        maps,
-        buckets,
-        &mut special,
-        empty(),
-        0,
-    );
-    let appended = append_all(
-        image,
-        log,
-        logtags,
-        starts,
-        maps,
-        buckets,
-        &special,
-        stacks,
-        set,
-        order,
-        count(image.words, FUNCTIONS),
-    );
-    let ends = enter_all(
-        image, log, logtags, starts, maps, buckets, &special, stacks, appended, 0,
-    );
-    let derived = Derived {
-        log,
-        logtags,
-        starts,
-        maps,
-        buckets,
-        sizes: ends,
+    let source = ShaderSource { image, offset: 0 };
+    let Ok(set) = source_types(source, derived, &mut special, empty()) else {
+        return Err(Refusal::Full);
     };
-    let bytes = derive_finish::finish(&derived, &special, words, output)?;
+    let all = count(image.words, FUNCTIONS);
+    let Ok(appended) = append_all(image, derived, &special, stacks, set, order, all) else {
+        return Err(Refusal::Full);
+    };
+    let Ok(ends) = enter_all(source, derived, &special, stacks, appended) else {
+        return Err(Refusal::Full);
+    };
+    let bytes = derive_finish::finish(&derived.view(ends), &special, words, output)?;
     Ok(bytes as u32)
 }

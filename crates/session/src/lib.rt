@@ -10,7 +10,8 @@ ghost use Rattle.session.specs.Sessions.{or_else, numbered};
 
 use base_refusals::pack;
 use base_words::{Tags, Words};
-use derive_state::{Buckets, Log, LogTags, Maps, StackRows, Starts, clear_maps, empty};
+use derive_state::{Buckets, DerivedMut, Log, LogTags, Maps, StackRows, Starts, clear_maps, empty};
+use session_operations::Session;
 use session_steps::{Step, perform};
 
 // An answer's words, as far as there is room for them.
@@ -60,10 +61,22 @@ pub fn session_in(
     // buckets left by another session would only cost time; the answer does not depend on them
     *buckets = [0; 16384];
     let mut special = [0u32; 1027];
-    let mut ends = empty();
-    let mut set = false;
-    let mut n = 0;
-    let mut offset = 0;
+    let derived = DerivedMut {
+        log,
+        logtags,
+        starts,
+        maps,
+        buckets,
+    };
+    let mut session = Session {
+        source: None,
+        words,
+        tags,
+        derived,
+        special: &mut special,
+        stacks,
+        sizes: empty(),
+    };
     let mut first: u64 = 0;
     let count = steps.len() / 4;
     for j in 0..count {
@@ -73,28 +86,7 @@ pub fn session_in(
             b: steps[4 * j + 2],
             c: steps[4 * j + 3],
         };
-        let said = perform(
-            words,
-            tags,
-            log,
-            logtags,
-            starts,
-            maps,
-            buckets,
-            &mut special,
-            stacks,
-            sources,
-            output,
-            n,
-            ends,
-            set,
-            offset,
-            step,
-        );
-        ends = said.ends;
-        set = said.set;
-        n = said.n;
-        offset = said.offset;
+        let said = perform(&mut session, sources, output, step);
         tell(answers, 3 * j, &[said.refusal, said.first, said.second]);
         first = first_of(first, said.refusal, j);
     }

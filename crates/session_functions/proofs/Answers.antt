@@ -12,7 +12,7 @@ use Rattle.model.specs.Session.{Session, Answer, meets_ring, import_function, ma
 use Rattle.function_nesting.specs.Nested.{append_s, follow_s}
 use Rattle.derive_state.specs.Source.{mod_of}
 use Rattle.derive_state.specs.Held.{st_of}
-use Rattle.derive_state.specs.declared.Sizes.{Sizes}
+use Rattle.derive_state.specs.Sizes.{Sizes}
 use Rattle.derive_lookup.specs.Bearing.{KnownEnsures}
 use Rattle.derive_rings.specs.Rings.{RingsEnsures}
 use Rattle.function_builder.specs.Stacks.{Stacks}

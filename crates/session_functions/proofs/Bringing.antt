@@ -28,7 +28,7 @@ use Rattle.derive_state.specs.Refers.{tab_of}
 use Rattle.derive_state.specs.Flats.{function_of}
 use Rattle.derive_state.specs.Source.{mod_of}
 use Rattle.derive_state.specs.Held.{table_of, functions_of, st_of, size_r, Over, ValidArrays}
-use Rattle.derive_state.specs.declared.Sizes.{Sizes}
+use Rattle.derive_state.specs.Sizes.{Sizes}
 use Rattle.derive_state.proofs.State.{table_long, tab_long}
 use Rattle.derive_state.proofs.Laws.{none-held}
 use Rattle.function_nesting.specs.Nested.{append_s, follow_s}

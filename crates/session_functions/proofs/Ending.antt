@@ -17,7 +17,7 @@ use Rattle.derive_limits.specs.Reached.{Reached}
 use Rattle.derive_limits.proofs.Theorems.{exact-end}
 use Rattle.derive_state.specs.Source.{mod_of}
 use Rattle.derive_state.specs.Held.{st_of}
-use Rattle.derive_state.specs.declared.Sizes.{Sizes}
+use Rattle.derive_state.specs.Sizes.{Sizes}
 use Rattle.derive_state.proofs.State.{st_stays, kept-stays}
 use Rattle.derive_rings.specs.Rings.{RingsEnsures}
 use Rattle.function_builder.specs.Stacks.{Stacks}

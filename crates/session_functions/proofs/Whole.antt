@@ -6,7 +6,7 @@ use Prim.Native.Nat.{ℕ, ◌≤◌}
 use lib.ListN.{length, replicate, length-replicate}
 use Rattle.model.specs.Imports.{Derived}
 use Rattle.derive_state.specs.Held.{st_of, ValidArrays}
-use Rattle.derive_state.specs.declared.Sizes.{Sizes}
+use Rattle.derive_state.specs.Sizes.{Sizes}
 use Rattle.derive_state.proofs.State.{st_stays, kept-stays}
 use Rattle.derive_state.proofs.Fresh.{rows_at}
 use Rattle.function_builder.specs.Stacks.{Stacks}

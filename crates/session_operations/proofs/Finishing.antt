@@ -1,5 +1,6 @@
 -- What finishing does to a session whose state the arrays hold: it answers what the model answers, and an empty session follows; or it is refused, and the
 -- session is as it was.
+use mathlib.Core.Bool.{false≢true}
 use Rattle.std.proofs.Common.{◌≡◌, ℕ, zero, suc, ◌<◌, Bool, true, false, List, [], length, get_or, set, sym, refl, ap, ◌∙◌, arith, length-set, get_or-set_other, get_or-set_same}
 use mathlib.Core.Option.{none, some}
 use Rattle.model.specs.Tables.{six}
@@ -10,7 +11,7 @@ use Rattle.derive_finish.specs.Told.{told, Held, Ended}
 use Rattle.derive_finish.specs.Theorems.{finish-told}
 use Rattle.derive_state.specs.Source.{mod_of}
 use Rattle.derive_state.specs.Held.{st_of}
-use Rattle.derive_state.specs.declared.Sizes.{Sizes}
+use Rattle.derive_state.specs.Sizes.{Sizes}
 use Rattle.derive_session.specs.Valid.{session_of, ValidSession}
 use Rattle.session_operations.specs.Operations.{FinishEnsures}
 use Rattle.derive_session.specs.Fresh.{Nothing, unmapped, Empty, starts-new, valid_new}
@@ -89,3 +90,21 @@ module _ (set : Bool) (n o : ℕ) (words tags targets log logtags : List ℕ) (s
 
       pub finish_done : FinishEnsures (finish (length output₀) before) before 0 b output₀ output (session_of false n o words log logtags starts maps' (unset special) r) × ValidSession false n o words tags targets log logtags starts maps' buckets (unset special) r
       finish_done = rw (hm, hr) (record { is = ap (λ (y : ℕ). (y, b, output)) (sym ok) ∙ tells; done = λ q. starts-new empty n o; stays = λ q. absurd (omega arith) }, valid_new empty n o)
+
+-- ---- without a source its words and its offset do not matter
+module _ {n o : ℕ} {words tags targets log logtags : List ℕ} {starts maps : List (List ℕ)} {buckets special : List ℕ} {e : Sizes} where
+  pub unset_valid : ValidSession false n o words tags targets log logtags starts maps buckets special e → ValidSession false 0 0 words tags targets log logtags starts maps buckets special e
+  unfolding session_of
+  unset_valid L = record {
+    reached = L.reached;
+    kept = L.kept;
+    specials = L.specials;
+    targets_are = L.targets_are;
+    words_long = L.words_long;
+    tape_long = L.tape_long;
+    taped = λ q. absurd (false≢true q);
+    passes = λ q. absurd (false≢true q);
+    no_entries = L.no_entries;
+    lowest = L.lowest;
+    going = L.going;
+  }

@@ -16,7 +16,7 @@ use Rattle.derive_limits.proofs.Theorems.{exact-at, kept_full, kept-room, kept_n
 use Rattle.derive_state.specs.Refers.{tab_of}
 use Rattle.derive_state.specs.Source.{mod_of, src_of, Source as Held}
 use Rattle.derive_state.specs.Held.{st_of, ValidArrays, ImportOrUndoEnsures}
-use Rattle.derive_state.specs.declared.Sizes.{Sizes}
+use Rattle.derive_state.specs.Sizes.{Sizes}
 use Rattle.derive_state.proofs.State.{tab_long}
 use Rattle.derive_state.proofs.Laws.{none-held}
 use Rattle.derive_imports.proofs.Sources.{count_is}

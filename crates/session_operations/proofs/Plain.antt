@@ -8,7 +8,7 @@ use Rattle.model.specs.Session.{Session, Answer, answered, refused, any_ray, has
 use Rattle.model.specs.Steps.{bit}
 use Rattle.derive_state.specs.Flats.{special_of}
 use Rattle.derive_state.specs.Held.{st_of}
-use Rattle.derive_state.specs.declared.Sizes.{Sizes}
+use Rattle.derive_state.specs.Sizes.{Sizes}
 use Rattle.derive_state.proofs.State.{pairs_long}
 use Rattle.derive_session.specs.Valid.{session_of}
 use Rattle.session_operations.specs.Operations.{answer_of, OperationEnsures, MapSpanEnsures, RequiredEnsures}

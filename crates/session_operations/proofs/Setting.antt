@@ -21,7 +21,7 @@ use Rattle.base_refusals.specs.declared.Refusal.{Refusal}
 use Rattle.intake.proofs.Refusals.{refused_by}
 use Rattle.derive_state.specs.Source.{mod_of, Source}
 use Rattle.derive_state.specs.Held.{st_of}
-use Rattle.derive_state.specs.declared.Sizes.{Sizes}
+use Rattle.derive_state.specs.Sizes.{Sizes}
 use Rattle.derive_imports.proofs.Sources.{mod_is, source_of}
 use Rattle.derive_source.specs.SourceSet.{SetSourceEnsures}
 use Rattle.derive_source.specs.Theorems.{Holding, holding-set, holding_cleared, set_full, set_room}

@@ -1,3 +1,4 @@
 pub mod Operations
 pub mod Theorems
 pub mod Answers
+pub mod Sessions

@@ -5,7 +5,7 @@ use Rattle.model.specs.References.{span_by}
 use Rattle.model.specs.Session.{Session, Answer, answered, refused, new, has_required_special_types}
 use Rattle.model.specs.Steps.{bit}
 use Rattle.derive_finish.specs.Told.{told}
-use Rattle.derive_state.specs.declared.Sizes.{Sizes}
+use Rattle.derive_state.specs.Sizes.{Sizes}
 use Rattle.derive_session.specs.Valid.{session_of}
 
 -- a refusal, 0 for none, and a value

@@ -7,7 +7,7 @@ use Rattle.model.specs.Session.{with_source, clear, map_span}
 use Rattle.theory_sessions.specs.Operating.{clears, does}
 use Rattle.derive_limits.specs.Reached.{Public, Reached}
 use Rattle.derive_limits.proofs.Reached.{does-reached}
-use Rattle.derive_state.specs.declared.Sizes.{Sizes}
+use Rattle.derive_state.specs.Sizes.{Sizes}
 use Rattle.derive_session.specs.Valid.{session_of, ValidSession}
 use Rattle.session_operations.specs.Operations.{answer_of, OperationEnsures, MapSpanEnsures}
 

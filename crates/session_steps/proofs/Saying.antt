@@ -13,15 +13,13 @@ use Rattle.derive_limits.specs.Reached.{Reached, Public}
 use Rattle.derive_limits.proofs.Reached.{does-reached}
 use Rattle.theory_sessions.specs.Operating.{does, clears}
 use Rattle.derive_state.specs.Refers.{tab_of, target_bytes}
-use Rattle.derive_state.specs.declared.Sizes.{Sizes}
-use Rattle.function_builder.specs.Stacks.{Stacks}
+use Rattle.derive_state.specs.Sizes.{Sizes}
 use Rattle.derive_session.specs.Valid.{session_of, ValidSession}
 use Rattle.std.specs.Prelude.{Result, Ok, Err}
 use Rattle.base_refusals.specs.Numbers.{number_of as refused_by}
 use Rattle.base_refusals.specs.declared.Refusal.{Refusal}
 use Rattle.derive_finish.specs.Told.{refusal_of}
-use Rattle.session_operations.specs.declared.Imported.{Imported}
-use Rattle.session_operations.specs.Answers.{value_in, ends_in}
+use Rattle.session_operations.specs.Answers.{value_in}
 use Rattle.session_operations.specs.Operations.{answer_of, OperationEnsures, MapSpanEnsures, RequiredEnsures}
 use Rattle.session_steps.specs.declared.Operation.{Operation}
 use Rattle.session_steps.specs.Numbers.{number_of}
@@ -89,16 +87,6 @@ pub none_stepped : (o a b c : ℕ) (sources output : List ℕ) (s : Session) →
 unfolding operations perform says bytes_of
 none_stepped o a b c sources output s h = rw (get_or-eq_default operations unknown h) (record { refusal_is = refl; first_is = refl; second_is = refl; output_is = refl; session_is = refl })
 
--- ---- the stacks do not matter between operations
-pub stacks_low : {stacks : List (List ℕ)} {e e' : Sizes} → Stacks stacks e → (e'.exprtop ≡ 0) × (e'.bodytop ≡ 0) → Stacks stacks e'
-stacks_low h l = record { four = h.four; rows = h.rows; high = let p = l.0 in omega arith; high' = let p = l.1 in omega arith }
-
--- ---- what a step that imports leaves
-pub record Imports (o a b c : ℕ) (before : Session) (set : Bool) (n offset : ℕ) (words tags special log logtags : List ℕ) (starts maps : List (List ℕ)) (buckets : List ℕ) (stacks : List (List ℕ)) (e : Sizes) (said : Result Imported Refusal) : Type 0 where
-  pub recorded : Recorded o a b c before (refusal_of said) (value_of (refusal_of said) (value_in said)) (session_of set n offset words log logtags starts maps special (ends_in e said))
-  pub valid : ValidSession set n offset words tags target_bytes log logtags starts maps buckets special (ends_in e said)
-  pub stacked : Stacks stacks (ends_in e said)
-
 -- ---- setting a source
 pub set-quiet : (a b c : ℕ) (sources image : List ℕ) (s s' : Session) (k : ℕ) → part a b sources ≡ image → OperationEnsures (set (length image) (words_of image) c) s k tt s' → Quiet 0 a b c sources s k 0 0 s'
 unfolding operations perform
@@ -165,7 +153,7 @@ pub by_first : {x : Said} {k u u' v : ℕ} {output₀ output : List ℕ} {s' : S
 by_first e h = record { refusal_is = h.refusal_is; first_is = e ∙ h.first_is; second_is = h.second_is; output_is = h.output_is; session_is = h.session_is }
 
 -- a refused import answers no number
-pub first_is : (said : Result Imported Refusal) → value_in said ≡ value_of (refusal_of said) (value_in said)
+pub first_is : (said : Result ℕ Refusal) → value_in said ≡ value_of (refusal_of said) (value_in said)
 unfolding value_of
 first_is (Ok i) = refl
 first_is (Err e) = sym (value_none (refused_by e))

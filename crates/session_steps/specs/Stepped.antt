@@ -3,6 +3,9 @@ use Rattle.std.specs.Prelude.{◌≡◌, List, ℕ, zero, suc, get_or}
 use Rattle.std.proofs.lemmas.List.Edits.{sets}
 use Rattle.base_words.specs.Words.{bytes_of}
 use Rattle.model.specs.Session.{Session}
+use Rattle.session_operations.specs.declared.Session.{Session as Session'}
+use Rattle.session_operations.specs.Sessions.{Valid, SameMemory, meant}
+use Rattle.session_steps.specs.declared.Answered.{Answered}
 use Rattle.model.specs.Steps.{Said, operations, unknown, perform}
 
 -- what step o of the numbers a, b, c answers
@@ -16,6 +19,12 @@ pub record PerformEnsures (x : Said) (refusal first second : ℕ) (output₀ out
   pub second_is : second ≡ x.second
   pub output_is : output ≡ sets output₀ x.at (bytes_of x.written)
   pub session_is : behind ≡ x.session
+
+-- the same of a session in the caller's arrays
+pub record Performs (x : Said) (s : Session') (answered : Answered) (output₀ output : List ℕ) (s' : Session') : Type 0 where
+  pub does : PerformEnsures x answered.refusal answered.first answered.second output₀ output (meant s')
+  pub valid : Valid s'
+  pub same : SameMemory s s'
 
 -- a step that writes nothing
 pub record Quiet (o a b c : ℕ) (sources : List ℕ) (before : Session) (refusal first second : ℕ) (behind : Session) : Type 0 where

@@ -1,17 +1,18 @@
-use mathlib.Core.Path.{refl}
 -- `derive_imports::import` meets its contract: it passes the record's words as `Turn` says, and then interns the record.
-use Rattle.std.proofs.Common.{arith}
+use Rattle.std.proofs.Common.{arith, refl}
+use Rattle.std.proofs.lemmas.Result.{err_from_is_err_and}
+use Rattle.derive_state.proofs.State.{arrays_same, arrays_then}
 use Rattle.derive_imports.proofs.Sources.{tape, small_number, readable, plain_name}
 use Rattle.derive_imports.proofs.Turns.{turn-known, turn-first}
 use Rattle.derive_imports.proofs.Importing.{word_in, past, number_in, lower, fails, goes_on, ends}
-use Rattle.derive_imports.proofs.+import.Goals.{then-r-lt-NOTHING+else-e, else-r-lt-NOTHING}
+use Rattle.derive_imports.proofs.+import.Goals.{then-r-lt-NOTHING+in_ok-e, else-r-lt-NOTHING}
 use Rattle.derive_imports.proofs.+import.Goals as goal
 
-pub bounds-maps-k : goal.bounds-maps-k
-bounds-maps-k t c = small_number _ _ _ c.requires.source c.args.table c.args.number c.requires.number_bound.0 c.requires.number_bound.1
+pub bounds-derived-k : goal.bounds-derived-k
+bounds-derived-k t c = small_number _ _ _ c.requires.source c.args.table c.args.number c.requires.number_bound.0 c.requires.number_bound.1
 
-pub returns-then-maps-table-ne0 : goal.returns-then-maps-table-ne0
-returns-then-maps-table-ne0 t c = let q = c.requires.number_bound in turn-known _ _ _ c.requires.source _ _ _ q.0 q.1 _ _ _ _ _ _ q.2 c.requires.valid_arrays c.if-maps-table-ne0.true
+pub returns-then-derived-table-ne0 : goal.returns-then-derived-table-ne0
+returns-then-derived-table-ne0 t c = let q = c.requires.number_bound in record { does = turn-known _ _ _ c.requires.source _ _ _ q.0 q.1 _ _ _ _ _ _ refl c.requires.valid_arrays c.if-derived-table-ne0.true; same = arrays_same _ }
 
 pub record_at-at-requires : goal.record_at-at-requires
 record_at-at-requires t c = let q = c.requires.number_bound in record { tape = tape _ _ _ c.requires.source; k_bound = omega (arith, q.0); j_bound = q.1 }
@@ -20,47 +21,48 @@ pub record_end-end-requires : goal.record_end-end-requires
 record_end-end-requires t c = let q = c.requires.number_bound in record { tape = tape _ _ _ c.requires.source; k_bound = omega (arith, q.0); j_bound = q.1 }
 
 pub loop-j-init : goal.loop-j-init
-loop-j-init t c = let q = c.requires.number_bound in turn-first _ _ _ c.requires.source _ _ _ q.0 q.1 _ _ _ _ _ _ q.2 c.requires.valid_arrays c.if-maps-table-ne0.false _ _ c.record_at-at.ensures c.record_end-end.ensures
+loop-j-init t c = let q = c.requires.number_bound in (turn-first _ _ _ c.requires.source _ _ _ q.0 q.1 _ _ _ _ _ _ refl c.requires.valid_arrays c.if-derived-table-ne0.false _ _ c.record_at-at.ensures c.record_end-end.ensures, arrays_same _)
 
-pub bounds-image-j : goal.bounds-image-j
-bounds-image-j t c = word_in c.requires.source c.requires.number_bound c.requires.valid_arrays c.if-maps-table-ne0.false c.record_at-at.ensures c.record_end-end.ensures c.loop-j.invariant c.loop-j-test.true
+pub bounds-source-j : goal.bounds-source-j
+bounds-source-j t c = word_in c.requires.source (c.requires.number_bound.0, c.requires.number_bound.1, refl) c.requires.valid_arrays c.if-derived-table-ne0.false c.record_at-at.ensures c.record_end-end.ensures c.loop-j.invariant.0 c.loop-j-test.true
 
-pub bounds-image-j-in-loop-j : goal.bounds-image-j-in-loop-j
-bounds-image-j-in-loop-j t c = word_in c.requires.source c.requires.number_bound c.requires.valid_arrays c.if-maps-table-ne0.false c.record_at-at.ensures c.record_end-end.ensures c.loop-j.invariant c.loop-j-test.true
+pub bounds-source-j-in-loop-j : goal.bounds-source-j-in-loop-j
+bounds-source-j-in-loop-j t c = word_in c.requires.source (c.requires.number_bound.0, c.requires.number_bound.1, refl) c.requires.valid_arrays c.if-derived-table-ne0.false c.record_at-at.ensures c.record_end-end.ensures c.loop-j.invariant.0 c.loop-j-test.true
 
-pub offset_bounds-image-j : goal.offset_bounds-image-j
-offset_bounds-image-j t c = omega (arith, word_in c.requires.source c.requires.number_bound c.requires.valid_arrays c.if-maps-table-ne0.false c.record_at-at.ensures c.record_end-end.ensures c.loop-j.invariant c.loop-j-test.true)
+pub offset_bounds-source-j : goal.offset_bounds-source-j
+offset_bounds-source-j t c = omega (arith, word_in c.requires.source (c.requires.number_bound.0, c.requires.number_bound.1, refl) c.requires.valid_arrays c.if-derived-table-ne0.false c.record_at-at.ensures c.record_end-end.ensures c.loop-j.invariant.0 c.loop-j-test.true)
 
-pub import-e-requires : goal.import-e-requires
-import-e-requires t c =
+pub import-requires : goal.import-requires
+import-requires t c =
     let R = c.requires in
     let q = c.refers_to-r.ensures in
-    let inv = c.loop-j.invariant in
-    let inside = number_in R.source R.number_bound R.valid_arrays c.if-maps-table-ne0.false c.record_at-at.ensures c.record_end-end.ensures inv c.loop-j-test.true q.0 c.if-r-lt-NOTHING.true q.1 in
-    let falls = lower R.source R.number_bound R.valid_arrays c.if-maps-table-ne0.false c.record_at-at.ensures c.record_end-end.ensures inv c.loop-j-test.true q.0 c.if-r-lt-NOTHING.true q.1 in
-    (rw (← c.decreases) falls, (R.source, ((c.if-r-lt-NOTHING.true, inside, inv.going), inv.kept)))
+    let inv = c.loop-j.invariant.0 in
+    let inside = number_in R.source (R.number_bound.0, R.number_bound.1, refl) R.valid_arrays c.if-derived-table-ne0.false c.record_at-at.ensures c.record_end-end.ensures inv c.loop-j-test.true q.0 c.if-r-lt-NOTHING.true q.1 in
+    let falls = lower R.source (R.number_bound.0, R.number_bound.1, refl) R.valid_arrays c.if-derived-table-ne0.false c.record_at-at.ensures c.record_end-end.ensures inv c.loop-j-test.true q.0 c.if-r-lt-NOTHING.true q.1 in
+    (rw (← c.decreases) falls, (R.source, ((c.if-r-lt-NOTHING.true, inside), inv.kept)))
 
-pub returns-then-e : goal.returns-then-e
-returns-then-e t c =
+pub returns-in_err-e : goal.returns-in_err-e
+returns-in_err-e t c =
     let q = c.refers_to-r.ensures in
-    fails c.requires.source c.requires.number_bound c.requires.valid_arrays c.if-maps-table-ne0.false c.record_at-at.ensures c.record_end-end.ensures c.loop-j.invariant c.loop-j-test.true q.0 c.if-r-lt-NOTHING.true q.1 c.import-e.ensures c.if-e.true
+    let p = err_from_is_err_and c.from_residual.result c.from_residual.ensures.1 in
+    rw (p.1, p.2) (record { does = fails c.requires.source (c.requires.number_bound.0, c.requires.number_bound.1, refl) c.requires.valid_arrays c.if-derived-table-ne0.false c.record_at-at.ensures c.record_end-end.ensures c.loop-j.invariant.0 c.loop-j-test.true q.0 c.if-r-lt-NOTHING.true q.1 c.in_err-e.ensures.does refl; same = arrays_then c.loop-j.invariant.1 c.in_err-e.ensures.same })
 
 pub loop-j-preserved : goal.loop-j-preserved
 loop-j-preserved t c =
     let q = c.refers_to-r.ensures in
     elim c.if-r-lt-NOTHING.branch [
-      | then-r-lt-NOTHING+else-e w ↦ rw (w.log-is, w.logtags-is, w.starts-is, w.maps-is, w.buckets-is, w.e-is) (goes_on c.requires.source c.requires.number_bound c.requires.valid_arrays c.if-maps-table-ne0.false c.record_at-at.ensures c.record_end-end.ensures c.loop-j.invariant c.loop-j-test.true q.0 w.if-r-lt-NOTHING.true q.1 w.import-e.ensures w.if-e.false)
-      | else-r-lt-NOTHING w ↦ rw (w.log-is, w.logtags-is, w.starts-is, w.maps-is, w.buckets-is, w.e-is) (past c.requires.source c.requires.number_bound c.requires.valid_arrays c.if-maps-table-ne0.false c.record_at-at.ensures c.record_end-end.ensures c.loop-j.invariant c.loop-j-test.true q.0 w.if-r-lt-NOTHING.false)
+      | then-r-lt-NOTHING+in_ok-e w ↦ rw (w.derived-is, w.e-is) ((goes_on c.requires.source (c.requires.number_bound.0, c.requires.number_bound.1, refl) c.requires.valid_arrays c.if-derived-table-ne0.false c.record_at-at.ensures c.record_end-end.ensures c.loop-j.invariant.0 c.loop-j-test.true q.0 w.if-r-lt-NOTHING.true q.1 w.in_ok-e.ensures.does refl), arrays_then c.loop-j.invariant.1 w.in_ok-e.ensures.same)
+      | else-r-lt-NOTHING w ↦ rw (w.derived-is, w.e-is) ((past c.requires.source (c.requires.number_bound.0, c.requires.number_bound.1, refl) c.requires.valid_arrays c.if-derived-table-ne0.false c.record_at-at.ensures c.record_end-end.ensures c.loop-j.invariant.0 c.loop-j-test.true q.0 w.if-r-lt-NOTHING.false), c.loop-j.invariant.1)
     ]
 
 pub intern-requires-clause-readable : goal.intern-requires-clause-readable
 intern-requires-clause-readable t c = let q = c.requires.number_bound in readable _ _ _ c.requires.source c.args.table c.args.number q.0 q.1 _ _ c.record_at-at.ensures c.record_end-end.ensures _ refl
 
 pub intern-requires-clause-t_bound : goal.intern-requires-clause-t_bound
-intern-requires-clause-t_bound t c = let q = c.requires.number_bound in (q.0, q.1, small_number _ _ _ c.requires.source c.args.table c.args.number q.0 q.1, c.loop-j.invariant.going)
+intern-requires-clause-t_bound t c = let q = c.requires.number_bound in (q.0, q.1, small_number _ _ _ c.requires.source c.args.table c.args.number q.0 q.1)
 
 pub intern-requires-clause-nameless : goal.intern-requires-clause-nameless
 intern-requires-clause-nameless t c = let q = c.requires.number_bound in plain_name _ _ _ c.requires.source c.args.table c.args.number q.0 q.1 _ _ c.record_at-at.ensures c.record_end-end.ensures
 
 pub returns : goal.returns
-returns t c = ends c.requires.source c.requires.number_bound c.requires.valid_arrays c.if-maps-table-ne0.false c.record_at-at.ensures c.record_end-end.ensures c.loop-j.invariant c.loop-j-test.false c.intern.ensures
+returns t c = record { does = ends c.requires.source (c.requires.number_bound.0, c.requires.number_bound.1, refl) c.requires.valid_arrays c.if-derived-table-ne0.false c.record_at-at.ensures c.record_end-end.ensures c.loop-j.invariant.0 c.loop-j-test.false c.intern.ensures.does; same = arrays_then c.loop-j.invariant.1 c.intern.ensures.same }

@@ -5,10 +5,12 @@ use Rattle.derive_state.specs.Refers.{tab_of}
 use Rattle.derive_state.specs.Source.{src_of}
 use Rattle.theory_records.specs.Well.{rank}
 use Rattle.derive_imports.proofs.Turns.{Turn}
+use Rattle.derive_state.specs.Sizes.{going}
+use Rattle.derive_state.specs.Held.{SameArrays}
 use Rattle.derive_imports.proofs.+import.Given as goal
 
 abbrev pub decreases-import : goal.decreases-import
-decreases-import l = rank (src_of l.image.words.now l.image.n) (tab_of l.table) l.number
+decreases-import l = rank (src_of l.source.image.words.now l.source.image.n) (tab_of l.table) l.number
 
 abbrev pub invariant-loop-j : goal.invariant-loop-j
-invariant-loop-j l = Turn l.image.words.now l.image.tags.now l.image.n l.offset l.table l.k (refs (rec_at (src_of l.image.words.now l.image.n) (tab_of l.table) l.k)) l.initial.log l.initial.logtags l.initial.starts l.initial.maps l.initial.buckets l.initial.e l.end l.log l.logtags l.starts l.maps l.buckets l.e l.j
+invariant-loop-j l = (Turn l.source.image.words.now l.source.image.tags.now l.source.image.n l.source.offset l.table l.k (refs (rec_at (src_of l.source.image.words.now l.source.image.n) (tab_of l.table) l.k)) l.initial.derived.log.now l.initial.derived.logtags.now l.initial.derived.starts.now l.initial.derived.maps.now l.initial.derived.buckets.now (going l.initial.e) l.end l.derived.log.now l.derived.logtags.now l.derived.starts.now l.derived.maps.now l.derived.buckets.now (going l.e) l.j) × SameArrays l.initial.derived l.derived

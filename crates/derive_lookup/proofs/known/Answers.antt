@@ -2,6 +2,7 @@ use mathlib.Core.Path.{refl}
 use native.Mathlib.Omega.{arith}
 use Rattle.derive_imports.proofs.Sources.{tape}
 use Rattle.derive_lookup.proofs.Finds.{head_in, some_name, name_in_lem, name_few, name_reads, knows}
+use Rattle.derive_state.specs.Sizes.{going}
 use Rattle.derive_lookup.proofs.known.Goals as goal
 
 pub offset_bounds-image-s : goal.offset_bounds-image-s
@@ -26,4 +27,4 @@ pub find_name_from-d-requires : goal.find_name_from-d-requires
 find_name_from-d-requires c = let a = c.args in record { readable = name_reads a.image.words.now a.image.tags.now a.image.n c.requires.source c.requires.n_value a.f c.requires.f_bound _ c.record_at-s.ensures _ refl _ _ c.record_at-at.ensures c.record_end-end.ensures; names = c.requires.bearing.names }
 
 pub returns : goal.returns
-returns c = let a = c.args in knows a.image.words.now a.image.tags.now a.image.n c.requires.source c.requires.n_value a.f c.requires.f_bound _ c.record_at-s.ensures _ refl _ _ c.record_at-at.ensures c.record_end-end.ensures a.derived.now.log.now a.derived.now.logtags.now a.derived.now.starts.now a.derived.now.sizes _ _ c.find_name_from-d.ensures.0 c.last.ensures
+returns c = let a = c.args in knows a.image.words.now a.image.tags.now a.image.n c.requires.source c.requires.n_value a.f c.requires.f_bound _ c.record_at-s.ensures _ refl _ _ c.record_at-at.ensures c.record_end-end.ensures a.derived.now.log.now a.derived.now.logtags.now a.derived.now.starts.now (going a.derived.now.sizes) _ _ c.find_name_from-d.ensures.0 c.last.ensures

@@ -2,7 +2,8 @@
 use Rattle.derive_state.specs.Source.{mod_of}
 use Rattle.derive_rings.specs.Rings.{unknown_by}
 use Rattle.derive_rings.proofs.Asking.{Looking}
+use Rattle.derive_state.specs.Sizes.{going}
 use Rattle.derive_rings.proofs.entries_lead.Given as goal
 
 abbrev pub invariant-loop-e : goal.invariant-loop-e
-invariant-loop-e l = Looking (mod_of l.image.words.now l.image.n).entries (unknown_by l.image.words.now l.image.n l.derived.log.now l.derived.logtags.now l.derived.starts.now l.derived.sizes) l.e
+invariant-loop-e l = Looking (mod_of l.image.words.now l.image.n).entries (unknown_by l.image.words.now l.image.n l.derived.log.now l.derived.logtags.now l.derived.starts.now (going l.derived.sizes)) l.e

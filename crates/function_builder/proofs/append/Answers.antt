@@ -2,49 +2,50 @@
 use mathlib.Core.Path.{refl}
 use native.Mathlib.Omega.{arith}
 use Rattle.function_builder.proofs.Appends.{rises, legible, room, append_full, append_done}
+use Rattle.derive_state.specs.Sizes.{going}
 use Rattle.function_builder.proofs.append.Goals as goal
 
 pub overflow_sub-end : goal.overflow_sub-end
-overflow_sub-end c = let X = c.requires.expressions in let h = c.requires.e_lt_k.0 in let r = rises X h refl refl in omega arith
+overflow_sub-end c = let X = c.requires.expressions in let h = c.requires.e_lt_k in let r = rises X h refl refl in omega arith
 
 pub returns-then-exprtop-end : goal.returns-then-exprtop-end
-returns-then-exprtop-end c = let a = c.args in append_full a.image.words.now a.image.tags.now a.places.now a.image.n a.k c.requires.expressions a.derived.now.log.now a.derived.now.logtags.now a.derived.now.starts.now a.derived.now.maps.now a.exprmap.now a.stacks.now a.derived.now.sizes a.offset a.e1 a.e c.requires.e_lt_k.0 c.requires.e_lt_k.1 c.requires.under _ _ refl refl _ c.mark_full.ensures c.if-exprtop-end.true
+returns-then-exprtop-end c = let a = c.args in append_full a.source.image.words.now a.source.image.tags.now a.expressions.places.now a.source.image.n a.expressions.count c.requires.expressions a.derived.now.log.now a.derived.now.logtags.now a.derived.now.starts.now a.derived.now.maps.now a.exprmap.now a.stacks.now (going a.derived.now.sizes) a.source.offset a.expressions.base a.e c.requires.e_lt_k refl c.requires.under _ _ refl refl _ refl c.if-exprtop-end.true
 
 pub write-requires : goal.write-requires
-write-requires c = let r = room c.requires.expressions c.requires.e_lt_k.0 refl refl c.requires.under c.if-exprtop-end.false in record { ground = c.requires.ground; bearing = c.requires.bearing; maps_len = c.requires.maps_len; legible = legible c.requires.expressions c.requires.e_lt_k.0 refl refl; stacks = (c.requires.under.stacks_are, r.fits) }
+write-requires c = let r = room c.requires.expressions c.requires.e_lt_k refl refl c.requires.under c.if-exprtop-end.false in record { ground = c.requires.ground; bearing = c.requires.bearing; maps_len = c.requires.maps_len; legible = legible c.requires.expressions c.requires.e_lt_k refl refl; stacks = (c.requires.under.stacks_are, r.fits) }
 
 pub overflow_add-stacks : goal.overflow_add-stacks
-overflow_add-stacks c = let r = room c.requires.expressions c.requires.e_lt_k.0 refl refl c.requires.under c.if-exprtop-end.false in omega arith
+overflow_add-stacks c = let r = room c.requires.expressions c.requires.e_lt_k refl refl c.requires.under c.if-exprtop-end.false in omega arith
 
-pub offset_bounds-stacks-e1 : goal.offset_bounds-stacks-e1
-offset_bounds-stacks-e1 c = let r = room c.requires.expressions c.requires.e_lt_k.0 refl refl c.requires.under c.if-exprtop-end.false in omega arith
+pub offset_bounds-stacks-expressions : goal.offset_bounds-stacks-expressions
+offset_bounds-stacks-expressions c = let r = room c.requires.expressions c.requires.e_lt_k refl refl c.requires.under c.if-exprtop-end.false in omega arith
 
-pub bounds-stacks-e1 : goal.bounds-stacks-e1
-bounds-stacks-e1 c = let r = room c.requires.expressions c.requires.e_lt_k.0 refl refl c.requires.under c.if-exprtop-end.false in omega arith
+pub bounds-stacks-expressions : goal.bounds-stacks-expressions
+bounds-stacks-expressions c = let r = room c.requires.expressions c.requires.e_lt_k refl refl c.requires.under c.if-exprtop-end.false in omega arith
 
 pub overflow_add-exprmap : goal.overflow_add-exprmap
-overflow_add-exprmap c = let r = room c.requires.expressions c.requires.e_lt_k.0 refl refl c.requires.under c.if-exprtop-end.false in omega arith
+overflow_add-exprmap c = let r = room c.requires.expressions c.requires.e_lt_k refl refl c.requires.under c.if-exprtop-end.false in omega arith
 
 pub overflow_cast-exprmap : goal.overflow_cast-exprmap
-overflow_cast-exprmap c = let r = room c.requires.expressions c.requires.e_lt_k.0 refl refl c.requires.under c.if-exprtop-end.false in omega arith
+overflow_cast-exprmap c = let r = room c.requires.expressions c.requires.e_lt_k refl refl c.requires.under c.if-exprtop-end.false in omega arith
 
 pub offset_bounds-exprmap-e : goal.offset_bounds-exprmap-e
-offset_bounds-exprmap-e c = let h = c.requires.e_lt_k.0 in let f = c.requires.under.few in omega (arith, h, f)
+offset_bounds-exprmap-e c = let h = c.requires.e_lt_k in let f = c.requires.under.few in omega (arith, h, f)
 
 pub bounds-exprmap-e : goal.bounds-exprmap-e
-bounds-exprmap-e c = let h = c.requires.e_lt_k.0 in let f = c.requires.under.few in omega (arith, h, f)
+bounds-exprmap-e c = let h = c.requires.e_lt_k in let f = c.requires.under.few in omega (arith, h, f)
 
 pub overflow_sub-result : goal.overflow_sub-result
-overflow_sub-result c = let r = room c.requires.expressions c.requires.e_lt_k.0 refl refl c.requires.under c.if-exprtop-end.false in omega arith
+overflow_sub-result c = let r = room c.requires.expressions c.requires.e_lt_k refl refl c.requires.under c.if-exprtop-end.false in omega arith
 
 pub overflow_add-result : goal.overflow_add-result
-overflow_add-result c = let r = room c.requires.expressions c.requires.e_lt_k.0 refl refl c.requires.under c.if-exprtop-end.false in omega arith
+overflow_add-result c = let r = room c.requires.expressions c.requires.e_lt_k refl refl c.requires.under c.if-exprtop-end.false in omega arith
 
 pub overflow_add-result-2 : goal.overflow_add-result-2
-overflow_add-result-2 c = let r = room c.requires.expressions c.requires.e_lt_k.0 refl refl c.requires.under c.if-exprtop-end.false in omega arith
+overflow_add-result-2 c = let r = room c.requires.expressions c.requires.e_lt_k refl refl c.requires.under c.if-exprtop-end.false in omega arith
 
 pub overflow_cast-result-2 : goal.overflow_cast-result-2
-overflow_cast-result-2 c = let r = room c.requires.expressions c.requires.e_lt_k.0 refl refl c.requires.under c.if-exprtop-end.false in omega arith
+overflow_cast-result-2 c = let r = room c.requires.expressions c.requires.e_lt_k refl refl c.requires.under c.if-exprtop-end.false in omega arith
 
 pub returns : goal.returns
-returns c = let a = c.args in append_done a.image.words.now a.image.tags.now a.places.now a.image.n a.k c.requires.expressions a.derived.now.log.now a.derived.now.logtags.now a.derived.now.starts.now a.derived.now.maps.now a.exprmap.now a.stacks.now a.derived.now.sizes a.offset a.e1 a.e c.requires.e_lt_k.0 c.requires.e_lt_k.1 c.requires.under _ _ refl refl c.if-exprtop-end.false _ c.write.ensures _ refl
+returns c = let a = c.args in append_done a.source.image.words.now a.source.image.tags.now a.expressions.places.now a.source.image.n a.expressions.count c.requires.expressions a.derived.now.log.now a.derived.now.logtags.now a.derived.now.starts.now a.derived.now.maps.now a.exprmap.now a.stacks.now (going a.derived.now.sizes) a.source.offset a.expressions.base a.e c.requires.e_lt_k refl c.requires.under _ _ refl refl c.if-exprtop-end.false _ c.write.ensures _ refl

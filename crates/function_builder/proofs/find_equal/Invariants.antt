@@ -2,10 +2,11 @@
 use Prim.Native.Nat.{◌-◌}
 use Rattle.function_builder.specs.Stacks.{went_of}
 use Rattle.function_builder.proofs.Sieve.{Sieving}
+use Rattle.derive_state.specs.Sizes.{going}
 use Rattle.function_builder.proofs.find_equal.Given as goal
 
 abbrev pub invariant-loop-k : goal.invariant-loop-k
-invariant-loop-k l = Sieving l.image.words.now l.image.tags.now (went_of l.image.words.now l.image.n l.derived.log.now l.derived.logtags.now l.derived.starts.now l.derived.maps.now l.derived.sizes l.exprmap) l.at l.end l.stacks l.e1 l.derived.sizes l.k l.p l.y
+invariant-loop-k l = Sieving l.image.words.now l.image.tags.now (went_of l.image.words.now l.image.n l.derived.log.now l.derived.logtags.now l.derived.starts.now l.derived.maps.now (going l.derived.sizes) l.exprmap) l.at l.end l.stacks l.e1 (going l.derived.sizes) l.k l.p l.y
 
 abbrev pub decreases-loop-k : goal.decreases-loop-k
 decreases-loop-k l = l.derived.sizes.made - l.k

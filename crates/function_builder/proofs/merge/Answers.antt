@@ -4,10 +4,11 @@ use native.Mathlib.Nat.{le_refl}
 use native.Mathlib.Omega.{arith}
 use Rattle.function_builder.proofs.Stack.{made_low}
 use Rattle.function_builder.proofs.Appends.{rises, legible, merge_old, merge_new}
+use Rattle.derive_state.specs.Sizes.{going}
 use Rattle.function_builder.proofs.merge.Goals as goal
 
 pub find_equal-requires : goal.find_equal-requires
-find_equal-requires c = let U = c.requires.under in record { ground = c.requires.ground; bearing = c.requires.bearing; maps_len = c.requires.maps_len; legible = legible c.requires.expressions c.requires.e_lt_k.0 refl refl; stacks = (U.stacks_are, U.rising, U.made_is, (rises c.requires.expressions c.requires.e_lt_k.0 refl refl).0) }
+find_equal-requires c = let U = c.requires.under in record { ground = c.requires.ground; bearing = c.requires.bearing; maps_len = c.requires.maps_len; legible = legible c.requires.expressions c.requires.e_lt_k refl refl; stacks = (U.stacks_are, U.rising, U.made_is, (rises c.requires.expressions c.requires.e_lt_k refl refl).0) }
 
 pub overflow_add-exprmap : goal.overflow_add-exprmap
 overflow_add-exprmap c = let U = c.requires.under in let t = U.stacks_are.high in let l = made_low U in let y = c.in-Some.ensures.0 in omega arith
@@ -16,13 +17,13 @@ pub overflow_cast-exprmap : goal.overflow_cast-exprmap
 overflow_cast-exprmap c = let U = c.requires.under in let t = U.stacks_are.high in let l = made_low U in let y = c.in-Some.ensures.0 in omega arith
 
 pub offset_bounds-exprmap-e : goal.offset_bounds-exprmap-e
-offset_bounds-exprmap-e c = let X = c.requires.expressions in let h = c.requires.e_lt_k.0 in let f = X.few in omega arith
+offset_bounds-exprmap-e c = let X = c.requires.expressions in let h = c.requires.e_lt_k in let f = X.few in omega arith
 
 pub bounds-exprmap-e : goal.bounds-exprmap-e
-bounds-exprmap-e c = let X = c.requires.expressions in let h = c.requires.e_lt_k.0 in let f = X.few in omega arith
+bounds-exprmap-e c = let X = c.requires.expressions in let h = c.requires.e_lt_k in let f = X.few in omega arith
 
 pub returns-in-Some : goal.returns-in-Some
-returns-in-Some c = let a = c.args in merge_old a.image.words.now a.image.tags.now a.places.now a.image.n a.k c.requires.expressions a.derived.now.log.now a.derived.now.logtags.now a.derived.now.starts.now a.derived.now.maps.now a.exprmap.now a.stacks.now a.derived.now.sizes a.offset a.e1 a.e c.requires.e_lt_k.0 c.requires.e_lt_k.1 c.requires.under _ _ refl refl c.in-Some.j c.in-Some.ensures.1 c.in-Some.ensures.0
+returns-in-Some c = let a = c.args in merge_old a.source.image.words.now a.source.image.tags.now a.expressions.places.now a.source.image.n a.expressions.count c.requires.expressions a.derived.now.log.now a.derived.now.logtags.now a.derived.now.starts.now a.derived.now.maps.now a.exprmap.now a.stacks.now (going a.derived.now.sizes) a.source.offset a.expressions.base a.e c.requires.e_lt_k refl c.requires.under _ _ refl refl c.in-Some.j c.in-Some.ensures.1 c.in-Some.ensures.0
 
 pub returns : goal.returns
-returns c = let a = c.args in merge_new a.image.words.now a.image.tags.now a.places.now a.image.n a.k c.requires.expressions a.derived.now.log.now a.derived.now.logtags.now a.derived.now.starts.now a.derived.now.maps.now a.exprmap.now a.stacks.now a.derived.now.sizes a.offset a.e1 a.e c.requires.e_lt_k.0 c.requires.e_lt_k.1 c.requires.under _ _ refl refl _ c.in_default.ensures (le_refl _) _ _ _ c.append.ensures
+returns c = let a = c.args in merge_new a.source.image.words.now a.source.image.tags.now a.expressions.places.now a.source.image.n a.expressions.count c.requires.expressions a.derived.now.log.now a.derived.now.logtags.now a.derived.now.starts.now a.derived.now.maps.now a.exprmap.now a.stacks.now (going a.derived.now.sizes) a.source.offset a.expressions.base a.e c.requires.e_lt_k refl c.requires.under _ _ refl refl _ c.in_default.ensures (le_refl _) _ _ _ c.append.ensures

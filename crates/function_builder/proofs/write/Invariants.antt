@@ -2,7 +2,8 @@
 use Prim.Native.Nat.{◌+◌, ◌-◌, ◌≤◌}
 use Rattle.function_builder.specs.Stacks.{went_of}
 use Rattle.function_builder.proofs.Writes.{Laying}
+use Rattle.derive_state.specs.Sizes.{going}
 use Rattle.function_builder.proofs.write.Given as goal
 
 abbrev pub invariant-loop-j : goal.invariant-loop-j
-invariant-loop-j l = (Laying l.image.words.now l.image.tags.now (went_of l.image.words.now l.image.n l.derived.log.now l.derived.logtags.now l.derived.starts.now l.derived.maps.now l.derived.sizes l.exprmap) l.at l.end l.offset l.initial.stacks l.derived.sizes l.stacks l.j (l.derived.sizes.exprtop + (l.j - l.at)) l.u) × (l.at ≤ l.j)
+invariant-loop-j l = (Laying l.source.image.words.now l.source.image.tags.now (went_of l.source.image.words.now l.source.image.n l.derived.log.now l.derived.logtags.now l.derived.starts.now l.derived.maps.now (going l.derived.sizes) l.exprmap) l.at l.end l.source.offset l.initial.stacks (going l.derived.sizes) l.stacks l.j (l.derived.sizes.exprtop + (l.j - l.at)) l.u) × (l.at ≤ l.j)

@@ -4,46 +4,48 @@ use native.Mathlib.Omega.{arith}
 use Rattle.derive_lookup.proofs.Bears.{bearing}
 use Rattle.function_expressions.proofs.Needs.{cells_legible, unique_idle}
 use Rattle.function_expressions.proofs.Alongs.{along-begin, along-kept, along_under, along_in, along_number, along_record, along-lower, along_own, along-none, along-next, unique_full, unique_done}
-use Rattle.function_declarations.proofs.+import_initialiser.Goals.{then-s-lt-EXPR+else-got, else-s-lt-EXPR+then-r-eq-EXPRESSIONS+else-got-2, else-s-lt-EXPR+else-r-eq-EXPRESSIONS}
+use Rattle.function_declarations.proofs.+import_initialiser.Goals.{then-s-lt-EXPR+in_ok-got, else-s-lt-EXPR+then-r-eq-EXPRESSIONS+in_ok-got-2, else-s-lt-EXPR+else-r-eq-EXPRESSIONS}
+use Rattle.std.proofs.lemmas.Result.{err_from_is_err_and}
+use Rattle.derive_state.proofs.State.{arrays_same, arrays_then}
 use Rattle.function_declarations.proofs.+import_initialiser.Goals as goal
 
 pub returns-then-exprmap-e-ne0 : goal.returns-then-exprmap-e-ne0
-returns-then-exprmap-e-ne0 t c = let a = c.args in unique_idle c.requires.expressions a.image.n a.offset c.requires.e_lt_k.1 c.requires.valid_arrays c.requires.under c.requires.e_lt_k.0 c.if-exprmap-e-ne0.true
+returns-then-exprmap-e-ne0 t c = record { does = let a = c.args in unique_idle c.requires.expressions a.source.image.n a.source.offset refl c.requires.valid_arrays c.requires.under c.requires.e_lt_k c.if-exprmap-e-ne0.true; same = arrays_same _ }
 
 pub loop-j-init : goal.loop-j-init
-loop-j-init t c = along-begin c.requires.valid_arrays (cells_legible c.requires.expressions c.requires.e_lt_k.0 refl refl) c.requires.e_lt_k.1 c.requires.under
+loop-j-init t c = (along-begin c.requires.valid_arrays (cells_legible c.requires.expressions c.requires.e_lt_k refl refl) refl c.requires.under, arrays_same _)
 
-pub bounds-image-j : goal.bounds-image-j
-bounds-image-j t c = along_in c.requires.valid_arrays c.loop-j.invariant c.loop-j-test.true
+pub bounds-source-j : goal.bounds-source-j
+bounds-source-j t c = along_in c.requires.valid_arrays c.loop-j.invariant.0 c.loop-j-test.true
 
-pub offset_bounds-image-j : goal.offset_bounds-image-j
-offset_bounds-image-j t c = let z = along_in c.requires.valid_arrays c.loop-j.invariant c.loop-j-test.true in omega arith
+pub offset_bounds-source-j : goal.offset_bounds-source-j
+offset_bounds-source-j t c = let z = along_in c.requires.valid_arrays c.loop-j.invariant.0 c.loop-j-test.true in omega arith
 
-pub bounds-image-j-in-loop-j : goal.bounds-image-j-in-loop-j
-bounds-image-j-in-loop-j t c = along_in c.requires.valid_arrays c.loop-j.invariant c.loop-j-test.true
+pub bounds-source-j-in-loop-j : goal.bounds-source-j-in-loop-j
+bounds-source-j-in-loop-j t c = along_in c.requires.valid_arrays c.loop-j.invariant.0 c.loop-j-test.true
 
-pub import_record-got-requires : goal.import_record-got-requires
-import_record-got-requires t c = let inv = c.loop-j.invariant in let f = c.refers_to-r.ensures in record { ground = c.requires.ground; h_bound = along_number c.requires.valid_arrays inv c.loop-j-test.true refl f.0 f.1 c.if-s-lt-EXPR.true; full_value = inv.going; valid_arrays = along-kept c.requires.valid_arrays inv }
+pub import_record-requires : goal.import_record-requires
+import_record-requires t c = let inv = c.loop-j.invariant.0 in let f = c.refers_to-r.ensures in record { ground = c.requires.ground; h_bound = along_number c.requires.valid_arrays inv c.loop-j-test.true refl f.0 f.1 c.if-s-lt-EXPR.true; valid_arrays = along-kept c.requires.valid_arrays inv }
 
-pub returns-then-got : goal.returns-then-got
-returns-then-got t c = let a = c.args in let inv = c.loop-j.invariant in let less = c.loop-j-test.true in let f = c.refers_to-r.ensures in unique_full c.requires.expressions a.image.n a.offset c.requires.e_lt_k.1 c.requires.valid_arrays c.requires.under c.requires.e_lt_k.0 c.if-exprmap-e-ne0.false refl refl inv less (along_record c.requires.valid_arrays inv less refl f.0 f.1 c.if-s-lt-EXPR.true c.import_record-got.ensures) c.if-got.true
+pub returns-in_err-got : goal.returns-in_err-got
+returns-in_err-got t c = let p = err_from_is_err_and c.from_residual.result c.from_residual.ensures.1 in rw (p.1, p.2) (record { does = let a = c.args in let inv = c.loop-j.invariant.0 in let less = c.loop-j-test.true in let f = c.refers_to-r.ensures in unique_full c.requires.expressions a.source.image.n a.source.offset refl c.requires.valid_arrays c.requires.under c.requires.e_lt_k c.if-exprmap-e-ne0.false refl refl inv less (along_record c.requires.valid_arrays inv less refl f.0 f.1 c.if-s-lt-EXPR.true c.in_err-got.ensures.does) refl; same = arrays_then c.loop-j.invariant.1 c.in_err-got.ensures.same })
 
 pub loop-j-preserved : goal.loop-j-preserved
 loop-j-preserved t c =
     elim c.if-s-lt-EXPR.branch [
-      | then-s-lt-EXPR+else-got w ↦ rw (w.log-is, w.logtags-is, w.starts-is, w.maps-is, w.buckets-is, w.exprmap-is, w.stacks-is, w.got-is) (let inv = c.loop-j.invariant in let less = c.loop-j-test.true in let f = c.refers_to-r.ensures in along-next c.requires.valid_arrays inv less (along_record c.requires.valid_arrays inv less refl f.0 f.1 w.if-s-lt-EXPR.true w.import_record-got.ensures) w.if-got.false)
-      | else-s-lt-EXPR+then-r-eq-EXPRESSIONS+else-got-2 w ↦ rw (w.log-is, w.logtags-is, w.starts-is, w.maps-is, w.buckets-is, w.exprmap-is, w.stacks-is, w.got-is) (let inv = c.loop-j.invariant in let less = c.loop-j-test.true in let f = c.refers_to-r.ensures in along-next c.requires.valid_arrays inv less (along_own c.requires.valid_arrays inv less refl f.0 (refl ∙ f.1) w.if-s-lt-EXPR.false w.if-r-eq-EXPRESSIONS.true w.import_initialiser-got.ensures) w.if-got-2.false)
-      | else-s-lt-EXPR+else-r-eq-EXPRESSIONS w ↦ rw (w.log-is, w.logtags-is, w.starts-is, w.maps-is, w.buckets-is, w.exprmap-is, w.stacks-is, w.got-is) (let K = c.requires.valid_arrays in let inv = c.loop-j.invariant in let less = c.loop-j-test.true in let f = c.refers_to-r.ensures in along-next K inv less (along-none K inv less refl f.0 f.1 w.if-s-lt-EXPR.false w.if-r-eq-EXPRESSIONS.false) inv.going)
+      | then-s-lt-EXPR+in_ok-got w ↦ rw (w.derived-is, w.exprmap-is, w.stacks-is, w.got-is) ((let inv = c.loop-j.invariant.0 in let less = c.loop-j-test.true in let f = c.refers_to-r.ensures in along-next c.requires.valid_arrays inv less (along_record c.requires.valid_arrays inv less refl f.0 f.1 w.if-s-lt-EXPR.true w.in_ok-got.ensures.does) refl), arrays_then c.loop-j.invariant.1 w.in_ok-got.ensures.same)
+      | else-s-lt-EXPR+then-r-eq-EXPRESSIONS+in_ok-got-2 w ↦ rw (w.derived-is, w.exprmap-is, w.stacks-is, w.got-is) ((let inv = c.loop-j.invariant.0 in let less = c.loop-j-test.true in let f = c.refers_to-r.ensures in along-next c.requires.valid_arrays inv less (along_own c.requires.valid_arrays inv less refl f.0 (refl ∙ f.1) w.if-s-lt-EXPR.false w.if-r-eq-EXPRESSIONS.true w.in_ok-got-2.ensures.does) refl), arrays_then c.loop-j.invariant.1 w.in_ok-got-2.ensures.same)
+      | else-s-lt-EXPR+else-r-eq-EXPRESSIONS w ↦ rw (w.derived-is, w.exprmap-is, w.stacks-is, w.got-is) ((let K = c.requires.valid_arrays in let inv = c.loop-j.invariant.0 in let less = c.loop-j-test.true in let f = c.refers_to-r.ensures in along-next K inv less (along-none K inv less refl f.0 f.1 w.if-s-lt-EXPR.false w.if-r-eq-EXPRESSIONS.false) inv.going), c.loop-j.invariant.1)
     ]
 
-pub import_initialiser-got-requires : goal.import_initialiser-got-requires
-import_initialiser-got-requires t c = let q = c.decreases in let inv = c.loop-j.invariant in let f = c.refers_to-r.ensures in let h = c.requires.e_lt_k.0 in let z = along-lower c.requires.valid_arrays inv c.loop-j-test.true refl f.0 (refl ∙ f.1) c.if-s-lt-EXPR.false c.if-r-eq-EXPRESSIONS.true in (omega arith, (c.requires.ground, (c.requires.expressions, ((omega arith, inv.going), (along-kept c.requires.valid_arrays inv, along_under c.requires.valid_arrays inv)))))
+pub import_initialiser-requires : goal.import_initialiser-requires
+import_initialiser-requires t c = let q = c.decreases in let inv = c.loop-j.invariant.0 in let f = c.refers_to-r.ensures in let h = c.requires.e_lt_k in let z = along-lower c.requires.valid_arrays inv c.loop-j-test.true refl f.0 (refl ∙ f.1) c.if-s-lt-EXPR.false c.if-r-eq-EXPRESSIONS.true in (omega arith, (c.requires.ground, (c.requires.expressions, (omega arith, (along-kept c.requires.valid_arrays inv, along_under c.requires.valid_arrays inv)))))
 
-pub returns-then-got-2 : goal.returns-then-got-2
-returns-then-got-2 t c = let a = c.args in let inv = c.loop-j.invariant in let less = c.loop-j-test.true in let f = c.refers_to-r.ensures in unique_full c.requires.expressions a.image.n a.offset c.requires.e_lt_k.1 c.requires.valid_arrays c.requires.under c.requires.e_lt_k.0 c.if-exprmap-e-ne0.false refl refl inv less (along_own c.requires.valid_arrays inv less refl f.0 (refl ∙ f.1) c.if-s-lt-EXPR.false c.if-r-eq-EXPRESSIONS.true c.import_initialiser-got.ensures) c.if-got-2.true
+pub returns-in_err-got-2 : goal.returns-in_err-got-2
+returns-in_err-got-2 t c = let p = err_from_is_err_and c.from_residual-in_err-got-2.result c.from_residual-in_err-got-2.ensures.1 in rw (p.1, p.2) (record { does = let a = c.args in let inv = c.loop-j.invariant.0 in let less = c.loop-j-test.true in let f = c.refers_to-r.ensures in unique_full c.requires.expressions a.source.image.n a.source.offset refl c.requires.valid_arrays c.requires.under c.requires.e_lt_k c.if-exprmap-e-ne0.false refl refl inv less (along_own c.requires.valid_arrays inv less refl f.0 (refl ∙ f.1) c.if-s-lt-EXPR.false c.if-r-eq-EXPRESSIONS.true c.in_err-got-2.ensures.does) refl; same = arrays_then c.loop-j.invariant.1 c.in_err-got-2.ensures.same })
 
 pub merge-requires : goal.merge-requires
-merge-requires t c = let inv = c.loop-j.invariant in let K = along-kept c.requires.valid_arrays inv in record { ground = c.requires.ground; bearing = bearing K; maps_len = K.maps-six; expressions = c.requires.expressions; e_lt_k = (c.requires.e_lt_k.0, inv.going); under = along_under c.requires.valid_arrays inv }
+merge-requires t c = let inv = c.loop-j.invariant.0 in let K = along-kept c.requires.valid_arrays inv in let v = c.view.ensures in record { ground = c.requires.ground; bearing = rw (v.0, v.1, v.2, v.5) (bearing K); maps_len = rw v.3 K.maps-six; expressions = c.requires.expressions; e_lt_k = c.requires.e_lt_k; under = rw v.5 (along_under c.requires.valid_arrays inv) }
 
 pub returns : goal.returns
-returns t c = let a = c.args in unique_done c.requires.expressions a.image.n a.offset c.requires.e_lt_k.1 c.requires.valid_arrays c.requires.under c.requires.e_lt_k.0 c.if-exprmap-e-ne0.false refl refl c.loop-j.invariant c.loop-j-test.false c.merge.ensures
+returns t c = let v = c.view.ensures in record { does = let a = c.args in unique_done c.requires.expressions a.source.image.n a.source.offset refl c.requires.valid_arrays c.requires.under c.requires.e_lt_k c.if-exprmap-e-ne0.false refl refl c.loop-j.invariant.0 c.loop-j-test.false (rw (v.0, v.1, v.2, v.3, v.5) at c.merge.ensures); same = c.loop-j.invariant.1 }

@@ -4,10 +4,12 @@ use Rattle.theory_passes.specs.Light.{still}
 use Rattle.derive_state.specs.Source.{mod_of}
 use Rattle.function_references.specs.Cuts.{exprs_of}
 use Rattle.function_expressions.proofs.Alongs.{Alongs}
+use Rattle.derive_state.specs.Sizes.{going}
+use Rattle.derive_state.specs.Held.{SameArrays}
 use Rattle.function_declarations.proofs.+import_initialiser.Given as goal
 
 abbrev pub decreases-import_initialiser : goal.decreases-import_initialiser
 decreases-import_initialiser l = l.e
 
 abbrev pub invariant-loop-j : goal.invariant-loop-j
-invariant-loop-j l = Alongs l.image.words.now l.image.tags.now l.image.n l.k l.offset l.e l.at l.end (initialiserE l.offset (mod_of l.image.words.now l.image.n) still (exprs_of l.image.words.now l.image.tags.now l.places l.k)) l.initial.log l.initial.logtags l.initial.starts l.initial.maps l.initial.buckets l.initial.exprmap l.initial.stacks l.e1 l.initial.got l.log l.logtags l.starts l.maps l.buckets l.exprmap l.stacks l.got l.j
+invariant-loop-j l = (Alongs l.source.image.words.now l.source.image.tags.now l.source.image.n l.expressions.count l.source.offset l.e l.at l.end (initialiserE l.source.offset (mod_of l.source.image.words.now l.source.image.n) still (exprs_of l.source.image.words.now l.source.image.tags.now l.expressions.places.now l.expressions.count)) l.initial.derived.log.now l.initial.derived.logtags.now l.initial.derived.starts.now l.initial.derived.maps.now l.initial.derived.buckets.now l.initial.exprmap l.initial.stacks l.expressions.base (going l.initial.got) l.derived.log.now l.derived.logtags.now l.derived.starts.now l.derived.maps.now l.derived.buckets.now l.exprmap l.stacks (going l.got) l.j) × SameArrays l.initial.derived l.derived

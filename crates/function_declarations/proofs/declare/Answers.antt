@@ -7,13 +7,17 @@ use Rattle.function_words.proofs.Words.{fits_all}
 use Rattle.function_words.proofs.Calm.{legible_all, unites-idle}
 use Rattle.function_declarations.proofs.Declaring.{declare_begin, declare_in, declare_fits, declare_full, declare_over, declare_next, declare_done, unites_grow}
 use Rattle.function_declarations.proofs.Declared.{declare_ran}
+use Rattle.derive_state.specs.Sizes.{going}
+use Rattle.std.proofs.lemmas.Result.{err_from_is_err_and}
+use Rattle.derive_state.proofs.State.{arrays_same, arrays_then}
+use mathlib.Core.Path.{refl, ap}
 use Rattle.function_declarations.proofs.declare.Goals as goal
 
 pub loop-i-init : goal.loop-i-init
-loop-i-init c = declare_begin c.requires.valid_arrays c.requires.under c.requires.full_value c.requires.declares
+loop-i-init c = (declare_begin c.requires.valid_arrays c.requires.under refl c.requires.declares, arrays_same _)
 
 pub copy_mapped_run-r-requires : goal.copy_mapped_run-r-requires
-copy_mapped_run-r-requires c = let D = c.loop-i.invariant in let K = D.runs.kept D.going in let U = D.runs.under D.going in record { maps_len = K.maps-six; legible = (legible_all c.requires.expressions.few D.left.legible, U.stacks_are.high', made_small U) }
+copy_mapped_run-r-requires c = let D = c.loop-i.invariant.0 in let K = D.runs.kept D.going in let U = D.runs.under D.going in record { maps_len = K.maps-six; legible = (legible_all c.requires.expressions.few D.left.legible, U.stacks_are.high', made_small U) }
 
 pub overflow_sub-r : goal.overflow_sub-r
 overflow_sub-r c = let z = c.copy_mapped_run-r.ensures.reach in omega arith
@@ -22,31 +26,31 @@ pub advance-e-requires : goal.advance-e-requires
 advance-e-requires c = let R = c.copy_mapped_run-r.ensures in let z = R.reach in let y = R.room in omega arith
 
 pub returns-then-i-end : goal.returns-then-i-end
-returns-then-i-end c = let a = c.args in let l = c.loop-i in let K = c.requires.valid_arrays in let D = declare_ran K c.requires.ground.source a.offset (unites-idle c.requires.expressions a.image.n a.offset) a.at a.end a.exprmap.now a.stacks.now a.e1 l.e l.log l.logtags l.starts l.maps l.buckets l.exprmap l.invariant c.copy_mapped_run-r.ensures c.advance-e.ensures in declare_done K D (let z = c.if-i-end.true in omega arith)
+returns-then-i-end c = let l = c.loop-i in record { does = let a = c.args in let K = c.requires.valid_arrays in let D = declare_ran K c.requires.ground.source a.source.offset (unites-idle c.requires.expressions a.source.image.n a.source.offset) a.at a.end a.exprmap.now a.stacks.now a.expressions.base (going l.e) l.derived.log.now l.derived.logtags.now l.derived.starts.now l.derived.maps.now l.derived.buckets.now l.exprmap l.invariant.0 c.copy_mapped_run-r.ensures (ap going c.advance-e.ensures) in declare_done K D (let z = c.if-i-end.true in omega arith); same = l.invariant.1 }
 
 pub overflow_add-i : goal.overflow_add-i
-overflow_add-i c = let a = c.args in let l = c.loop-i in let K = c.requires.valid_arrays in let D = declare_ran K c.requires.ground.source a.offset (unites-idle c.requires.expressions a.image.n a.offset) a.at a.end a.exprmap.now a.stacks.now a.e1 l.e l.log l.logtags l.starts l.maps l.buckets l.exprmap l.invariant c.copy_mapped_run-r.ensures c.advance-e.ensures in let ne = c.if-i-end.false in let up = D.left.legible.stretch.rising in let less : c.copy_mapped_run-r.result.at < a.end = omega arith in let z = declare_in K D less in omega arith
+overflow_add-i c = let a = c.args in let l = c.loop-i in let K = c.requires.valid_arrays in let D = declare_ran K c.requires.ground.source a.source.offset (unites-idle c.requires.expressions a.source.image.n a.source.offset) a.at a.end a.exprmap.now a.stacks.now a.expressions.base (going l.e) l.derived.log.now l.derived.logtags.now l.derived.starts.now l.derived.maps.now l.derived.buckets.now l.exprmap l.invariant.0 c.copy_mapped_run-r.ensures (ap going c.advance-e.ensures) in let ne = c.if-i-end.false in let up = D.left.legible.stretch.rising in let less : c.copy_mapped_run-r.result.at < a.end = omega arith in let z = declare_in K D less in omega arith
 
 pub span_undefined-u-requires : goal.span_undefined-u-requires
-span_undefined-u-requires c = let a = c.args in let l = c.loop-i in let K = c.requires.valid_arrays in let D = declare_ran K c.requires.ground.source a.offset (unites-idle c.requires.expressions a.image.n a.offset) a.at a.end a.exprmap.now a.stacks.now a.e1 l.e l.log l.logtags l.starts l.maps l.buckets l.exprmap l.invariant c.copy_mapped_run-r.ensures c.advance-e.ensures in let ne = c.if-i-end.false in let up = D.left.legible.stretch.rising in let less : c.copy_mapped_run-r.result.at < a.end = omega arith in (D.left.legible.stretch, less)
+span_undefined-u-requires c = let a = c.args in let l = c.loop-i in let K = c.requires.valid_arrays in let D = declare_ran K c.requires.ground.source a.source.offset (unites-idle c.requires.expressions a.source.image.n a.source.offset) a.at a.end a.exprmap.now a.stacks.now a.expressions.base (going l.e) l.derived.log.now l.derived.logtags.now l.derived.starts.now l.derived.maps.now l.derived.buckets.now l.exprmap l.invariant.0 c.copy_mapped_run-r.ensures (ap going c.advance-e.ensures) in let ne = c.if-i-end.false in let up = D.left.legible.stretch.rising in let less : c.copy_mapped_run-r.result.at < a.end = omega arith in (D.left.legible.stretch, less)
 
-pub import_declaration_word-e-requires : goal.import_declaration_word-e-requires
-import_declaration_word-e-requires c = let a = c.args in let l = c.loop-i in let K = c.requires.valid_arrays in let D = declare_ran K c.requires.ground.source a.offset (unites-idle c.requires.expressions a.image.n a.offset) a.at a.end a.exprmap.now a.stacks.now a.e1 l.e l.log l.logtags l.starts l.maps l.buckets l.exprmap l.invariant c.copy_mapped_run-r.ensures c.advance-e.ensures in let ne = c.if-i-end.false in let up = D.left.legible.stretch.rising in let less : c.copy_mapped_run-r.result.at < a.end = omega arith in record { ground = c.requires.ground; expressions = c.requires.expressions; i_bound = (declare_in K D less, declare_fits K D less); full_value = D.going; valid_arrays = D.runs.kept D.going; under = D.runs.under D.going }
+pub import_declaration_word-requires : goal.import_declaration_word-requires
+import_declaration_word-requires c = let a = c.args in let l = c.loop-i in let K = c.requires.valid_arrays in let D = declare_ran K c.requires.ground.source a.source.offset (unites-idle c.requires.expressions a.source.image.n a.source.offset) a.at a.end a.exprmap.now a.stacks.now a.expressions.base (going l.e) l.derived.log.now l.derived.logtags.now l.derived.starts.now l.derived.maps.now l.derived.buckets.now l.exprmap l.invariant.0 c.copy_mapped_run-r.ensures (ap going c.advance-e.ensures) in let ne = c.if-i-end.false in let up = D.left.legible.stretch.rising in let less : c.copy_mapped_run-r.result.at < a.end = omega arith in record { ground = c.requires.ground; expressions = c.requires.expressions; i_bound = (declare_in K D less, declare_fits K D less); valid_arrays = D.runs.kept D.going; under = D.runs.under D.going }
 
-pub returns-then-e : goal.returns-then-e
-returns-then-e c = let a = c.args in let l = c.loop-i in let K = c.requires.valid_arrays in let D = declare_ran K c.requires.ground.source a.offset (unites-idle c.requires.expressions a.image.n a.offset) a.at a.end a.exprmap.now a.stacks.now a.e1 l.e l.log l.logtags l.starts l.maps l.buckets l.exprmap l.invariant c.copy_mapped_run-r.ensures c.advance-e.ensures in let ne = c.if-i-end.false in let up = D.left.legible.stretch.rising in let less : c.copy_mapped_run-r.result.at < a.end = omega arith in declare_full K D less c.span_undefined-u.ensures c.import_declaration_word-e.ensures c.if-e.true (unites_grow a.offset a.image.words.now a.image.tags.now a.image.n a.places.now a.k)
+pub returns-in_err-e : goal.returns-in_err-e
+returns-in_err-e c = let p = err_from_is_err_and c.from_residual.result c.from_residual.ensures.1 in rw (p.1, p.2) (record { does = let a = c.args in let l = c.loop-i in let K = c.requires.valid_arrays in let D = declare_ran K c.requires.ground.source a.source.offset (unites-idle c.requires.expressions a.source.image.n a.source.offset) a.at a.end a.exprmap.now a.stacks.now a.expressions.base (going l.e) l.derived.log.now l.derived.logtags.now l.derived.starts.now l.derived.maps.now l.derived.buckets.now l.exprmap l.invariant.0 c.copy_mapped_run-r.ensures (ap going c.advance-e.ensures) in let ne = c.if-i-end.false in let up = D.left.legible.stretch.rising in let less : c.copy_mapped_run-r.result.at < a.end = omega arith in declare_full K D less c.span_undefined-u.ensures c.in_err-e.ensures.does refl (unites_grow a.source.offset a.source.image.words.now a.source.image.tags.now a.source.image.n a.expressions.places.now a.expressions.count); same = arrays_then c.loop-i.invariant.1 c.in_err-e.ensures.same })
 
-pub put_word-e-requires : goal.put_word-e-requires
-put_word-e-requires c = let a = c.args in let l = c.loop-i in let K = c.requires.valid_arrays in let D = declare_ran K c.requires.ground.source a.offset (unites-idle c.requires.expressions a.image.n a.offset) a.at a.end a.exprmap.now a.stacks.now a.e1 l.e l.log l.logtags l.starts l.maps l.buckets l.exprmap l.invariant c.copy_mapped_run-r.ensures c.advance-e.ensures in let ne = c.if-i-end.false in let up = D.left.legible.stretch.rising in let less : c.copy_mapped_run-r.result.at < a.end = omega arith in let A = c.import_declaration_word-e.ensures in let z = c.if-e.false in record { ground = c.requires.ground; bearing = bearing (A.kept z); maps_len = (A.kept z).maps-six; i_bound = (declare_in K D less, fits_all a.image.words.now _ _ c.requires.expressions.few (declare_fits K D less)); stacks = (A.under z).stacks_are }
+pub put_word-requires : goal.put_word-requires
+put_word-requires c = let a = c.args in let l = c.loop-i in let K = c.requires.valid_arrays in let D = declare_ran K c.requires.ground.source a.source.offset (unites-idle c.requires.expressions a.source.image.n a.source.offset) a.at a.end a.exprmap.now a.stacks.now a.expressions.base (going l.e) l.derived.log.now l.derived.logtags.now l.derived.starts.now l.derived.maps.now l.derived.buckets.now l.exprmap l.invariant.0 c.copy_mapped_run-r.ensures (ap going c.advance-e.ensures) in let ne = c.if-i-end.false in let up = D.left.legible.stretch.rising in let less : c.copy_mapped_run-r.result.at < a.end = omega arith in let A = c.in_ok-e.ensures.does in let z = refl in let v = c.view.ensures in record { ground = c.requires.ground; bearing = rw (v.0, v.1, v.2, v.5) (bearing (A.kept z)); maps_len = rw v.3 (A.kept z).maps-six; i_bound = (declare_in K D less, fits_all a.source.image.words.now _ _ c.requires.expressions.few (declare_fits K D less)); stacks = rw v.5 (A.under z).stacks_are }
 
-pub returns-then-e-2 : goal.returns-then-e-2
-returns-then-e-2 c = let a = c.args in let l = c.loop-i in let K = c.requires.valid_arrays in let D = declare_ran K c.requires.ground.source a.offset (unites-idle c.requires.expressions a.image.n a.offset) a.at a.end a.exprmap.now a.stacks.now a.e1 l.e l.log l.logtags l.starts l.maps l.buckets l.exprmap l.invariant c.copy_mapped_run-r.ensures c.advance-e.ensures in let ne = c.if-i-end.false in let up = D.left.legible.stretch.rising in let less : c.copy_mapped_run-r.result.at < a.end = omega arith in declare_over K D less c.span_undefined-u.ensures c.import_declaration_word-e.ensures c.if-e.false c.put_word-e.ensures c.if-e-2.true (unites_grow a.offset a.image.words.now a.image.tags.now a.image.n a.places.now a.k)
+pub returns-in_err-e-2 : goal.returns-in_err-e-2
+returns-in_err-e-2 c = let p = err_from_is_err_and c.from_residual-in_err-e-2.result c.from_residual-in_err-e-2.ensures.1 in let v = c.view.ensures in rw (p.1, p.2) (record { does = let a = c.args in let l = c.loop-i in let K = c.requires.valid_arrays in let D = declare_ran K c.requires.ground.source a.source.offset (unites-idle c.requires.expressions a.source.image.n a.source.offset) a.at a.end a.exprmap.now a.stacks.now a.expressions.base (going l.e) l.derived.log.now l.derived.logtags.now l.derived.starts.now l.derived.maps.now l.derived.buckets.now l.exprmap l.invariant.0 c.copy_mapped_run-r.ensures (ap going c.advance-e.ensures) in let ne = c.if-i-end.false in let up = D.left.legible.stretch.rising in let less : c.copy_mapped_run-r.result.at < a.end = omega arith in declare_over K D less c.span_undefined-u.ensures c.in_ok-e.ensures.does refl (rw (v.0, v.1, v.2, v.3, v.5) at c.in_err-e-2.ensures) refl (unites_grow a.source.offset a.source.image.words.now a.source.image.tags.now a.source.image.n a.expressions.places.now a.expressions.count); same = arrays_then c.loop-i.invariant.1 c.in_ok-e.ensures.same })
 
 pub loop-i-smaller : goal.loop-i-smaller
 loop-i-smaller c = let h = c.loop-i-test.true in let z = c.copy_mapped_run-r.ensures.reach in omega arith
 
 pub loop-i-preserved : goal.loop-i-preserved
-loop-i-preserved c = let a = c.args in let l = c.loop-i in let K = c.requires.valid_arrays in let D = declare_ran K c.requires.ground.source a.offset (unites-idle c.requires.expressions a.image.n a.offset) a.at a.end a.exprmap.now a.stacks.now a.e1 l.e l.log l.logtags l.starts l.maps l.buckets l.exprmap l.invariant c.copy_mapped_run-r.ensures c.advance-e.ensures in let ne = c.if-i-end.false in let up = D.left.legible.stretch.rising in let less : c.copy_mapped_run-r.result.at < a.end = omega arith in declare_next K D less c.span_undefined-u.ensures c.import_declaration_word-e.ensures c.if-e.false c.put_word-e.ensures c.if-e-2.false
+loop-i-preserved c = (let v = c.view.ensures in let a = c.args in let l = c.loop-i in let K = c.requires.valid_arrays in let D = declare_ran K c.requires.ground.source a.source.offset (unites-idle c.requires.expressions a.source.image.n a.source.offset) a.at a.end a.exprmap.now a.stacks.now a.expressions.base (going l.e) l.derived.log.now l.derived.logtags.now l.derived.starts.now l.derived.maps.now l.derived.buckets.now l.exprmap l.invariant.0 c.copy_mapped_run-r.ensures (ap going c.advance-e.ensures) in let ne = c.if-i-end.false in let up = D.left.legible.stretch.rising in let less : c.copy_mapped_run-r.result.at < a.end = omega arith in declare_next K D less c.span_undefined-u.ensures c.in_ok-e.ensures.does refl (rw (v.0, v.1, v.2, v.3, v.5) at c.in_ok-e-2.ensures) refl, arrays_then c.loop-i.invariant.1 c.in_ok-e.ensures.same)
 
 pub returns : goal.returns
-returns c = declare_done c.requires.valid_arrays c.loop-i.invariant c.loop-i-test.false
+returns c = record { does = declare_done c.requires.valid_arrays c.loop-i.invariant.0 c.loop-i-test.false; same = c.loop-i.invariant.1 }

@@ -2,10 +2,12 @@
 use Prim.Native.Nat.{◌-◌}
 use Rattle.function_words.specs.Runs.{unites}
 use Rattle.function_declarations.proofs.Declaring.{Declaring}
+use Rattle.derive_state.specs.Sizes.{going}
+use Rattle.derive_state.specs.Held.{SameArrays}
 use Rattle.function_declarations.proofs.declare.Given as goal
 
 abbrev pub invariant-loop-i : goal.invariant-loop-i
-invariant-loop-i l = Declaring l.image.words.now l.image.tags.now l.image.n l.k l.offset (unites l.offset l.image.words.now l.image.tags.now l.image.n l.places l.k) l.at l.end l.initial.log l.initial.logtags l.initial.starts l.initial.maps l.initial.buckets l.initial.exprmap l.initial.stacks l.e1 l.initial.e l.e l.log l.logtags l.starts l.maps l.buckets l.exprmap l.stacks l.i l.u
+invariant-loop-i l = (Declaring l.source.image.words.now l.source.image.tags.now l.source.image.n l.expressions.count l.source.offset (unites l.source.offset l.source.image.words.now l.source.image.tags.now l.source.image.n l.expressions.places.now l.expressions.count) l.at l.end l.initial.derived.log.now l.initial.derived.logtags.now l.initial.derived.starts.now l.initial.derived.maps.now l.initial.derived.buckets.now l.initial.exprmap l.initial.stacks l.expressions.base (going l.initial.e) (going l.e) l.derived.log.now l.derived.logtags.now l.derived.starts.now l.derived.maps.now l.derived.buckets.now l.exprmap l.stacks l.i l.u) × SameArrays l.initial.derived l.derived
 
 abbrev pub decreases-loop-i : goal.decreases-loop-i
 decreases-loop-i l = l.end - l.i

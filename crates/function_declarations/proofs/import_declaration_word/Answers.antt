@@ -3,19 +3,20 @@ use mathlib.Core.Path.{refl}
 use lib.ListN.{get_or}
 use Rattle.function_words.specs.Runs.{unites}
 use Rattle.function_words.proofs.Words.{record_low, expression_low, brings_record, brings_nothing, brings_expression}
+use Rattle.derive_state.proofs.State.{arrays_same}
 use Rattle.function_declarations.proofs.import_declaration_word.Goals as goal
 
 pub import_by_table-requires : goal.import_by_table-requires
-import_by_table-requires c = let a = c.args in let t = c.refers_to-r in record { ground = c.requires.ground; h_bound = record_low a.image.words.now a.image.n a.k a.offset (unites a.offset a.image.words.now a.image.tags.now a.image.n a.places.now a.k) (unites a.offset a.image.words.now a.image.tags.now a.image.n a.places.now a.k) (get_or a.image.tags.now a.i 0) (get_or a.image.words.now a.i 0) t.result.table t.result.number c.refers_to-r.ensures.0 c.refers_to-r.ensures.1 c.requires.i_bound.1 c.if-s-lt-EXPR.true; full_value = c.requires.full_value; valid_arrays = c.requires.valid_arrays }
+import_by_table-requires c = let a = c.args in let t = c.refers_to-r in record { ground = c.requires.ground; h_bound = record_low a.source.image.words.now a.source.image.n a.expressions.count a.source.offset (unites a.source.offset a.source.image.words.now a.source.image.tags.now a.source.image.n a.expressions.places.now a.expressions.count) (unites a.source.offset a.source.image.words.now a.source.image.tags.now a.source.image.n a.expressions.places.now a.expressions.count) (get_or a.source.image.tags.now a.i 0) (get_or a.source.image.words.now a.i 0) t.result.table t.result.number c.refers_to-r.ensures.0 c.refers_to-r.ensures.1 c.requires.i_bound.1 c.if-s-lt-EXPR.true; valid_arrays = c.requires.valid_arrays }
 
 pub returns-then-s-lt-EXPR : goal.returns-then-s-lt-EXPR
-returns-then-s-lt-EXPR c = let a = c.args in let t = c.refers_to-r in brings_record a.image.words.now a.image.n a.k a.offset (unites a.offset a.image.words.now a.image.tags.now a.image.n a.places.now a.k) (unites a.offset a.image.words.now a.image.tags.now a.image.n a.places.now a.k) (get_or a.image.tags.now a.i 0) (get_or a.image.words.now a.i 0) t.result.table t.result.number c.refers_to-r.ensures.0 c.refers_to-r.ensures.1 c.requires.valid_arrays c.requires.under c.if-s-lt-EXPR.true c.import_by_table.ensures
+returns-then-s-lt-EXPR c = record { does = let a = c.args in let t = c.refers_to-r in brings_record a.source.image.words.now a.source.image.n a.expressions.count a.source.offset (unites a.source.offset a.source.image.words.now a.source.image.tags.now a.source.image.n a.expressions.places.now a.expressions.count) (unites a.source.offset a.source.image.words.now a.source.image.tags.now a.source.image.n a.expressions.places.now a.expressions.count) (get_or a.source.image.tags.now a.i 0) (get_or a.source.image.words.now a.i 0) t.result.table t.result.number c.refers_to-r.ensures.0 c.refers_to-r.ensures.1 c.requires.valid_arrays c.requires.under c.if-s-lt-EXPR.true c.import_by_table.ensures.does; same = c.import_by_table.ensures.same }
 
 pub returns-then-r-ne-EXPRESSIONS : goal.returns-then-r-ne-EXPRESSIONS
-returns-then-r-ne-EXPRESSIONS c = let a = c.args in let t = c.refers_to-r in brings_nothing a.image.words.now a.image.n a.k a.offset (unites a.offset a.image.words.now a.image.tags.now a.image.n a.places.now a.k) (unites a.offset a.image.words.now a.image.tags.now a.image.n a.places.now a.k) (get_or a.image.tags.now a.i 0) (get_or a.image.words.now a.i 0) t.result.table t.result.number c.refers_to-r.ensures.0 c.refers_to-r.ensures.1 c.requires.valid_arrays c.requires.under c.if-s-lt-EXPR.false c.if-r-ne-EXPRESSIONS.true c.requires.full_value
+returns-then-r-ne-EXPRESSIONS c = record { does = let a = c.args in let t = c.refers_to-r in brings_nothing a.source.image.words.now a.source.image.n a.expressions.count a.source.offset (unites a.source.offset a.source.image.words.now a.source.image.tags.now a.source.image.n a.expressions.places.now a.expressions.count) (unites a.source.offset a.source.image.words.now a.source.image.tags.now a.source.image.n a.expressions.places.now a.expressions.count) (get_or a.source.image.tags.now a.i 0) (get_or a.source.image.words.now a.i 0) t.result.table t.result.number c.refers_to-r.ensures.0 c.refers_to-r.ensures.1 c.requires.valid_arrays c.requires.under c.if-s-lt-EXPR.false c.if-r-ne-EXPRESSIONS.true refl; same = arrays_same _ }
 
 pub import_initialiser-requires : goal.import_initialiser-requires
-import_initialiser-requires c = let a = c.args in let t = c.refers_to-r in record { ground = c.requires.ground; expressions = c.requires.expressions; e_lt_k = (expression_low a.image.words.now a.image.n a.k a.offset (unites a.offset a.image.words.now a.image.tags.now a.image.n a.places.now a.k) (unites a.offset a.image.words.now a.image.tags.now a.image.n a.places.now a.k) (get_or a.image.tags.now a.i 0) (get_or a.image.words.now a.i 0) t.result.table t.result.number c.refers_to-r.ensures.0 c.refers_to-r.ensures.1 c.requires.i_bound.1 c.if-s-lt-EXPR.false c.if-r-ne-EXPRESSIONS.false _ refl, c.requires.full_value); valid_arrays = c.requires.valid_arrays; under = c.requires.under }
+import_initialiser-requires c = let a = c.args in let t = c.refers_to-r in record { ground = c.requires.ground; expressions = c.requires.expressions; e_lt_k = expression_low a.source.image.words.now a.source.image.n a.expressions.count a.source.offset (unites a.source.offset a.source.image.words.now a.source.image.tags.now a.source.image.n a.expressions.places.now a.expressions.count) (unites a.source.offset a.source.image.words.now a.source.image.tags.now a.source.image.n a.expressions.places.now a.expressions.count) (get_or a.source.image.tags.now a.i 0) (get_or a.source.image.words.now a.i 0) t.result.table t.result.number c.refers_to-r.ensures.0 c.refers_to-r.ensures.1 c.requires.i_bound.1 c.if-s-lt-EXPR.false c.if-r-ne-EXPRESSIONS.false _ refl; valid_arrays = c.requires.valid_arrays; under = c.requires.under }
 
 pub returns : goal.returns
-returns c = let a = c.args in let t = c.refers_to-r in brings_expression a.image.words.now a.image.n a.k a.offset (unites a.offset a.image.words.now a.image.tags.now a.image.n a.places.now a.k) (unites a.offset a.image.words.now a.image.tags.now a.image.n a.places.now a.k) (get_or a.image.tags.now a.i 0) (get_or a.image.words.now a.i 0) t.result.table t.result.number c.refers_to-r.ensures.0 c.refers_to-r.ensures.1 c.if-s-lt-EXPR.false c.if-r-ne-EXPRESSIONS.false refl c.import_initialiser.ensures
+returns c = record { does = let a = c.args in let t = c.refers_to-r in brings_expression a.source.image.words.now a.source.image.n a.expressions.count a.source.offset (unites a.source.offset a.source.image.words.now a.source.image.tags.now a.source.image.n a.expressions.places.now a.expressions.count) (unites a.source.offset a.source.image.words.now a.source.image.tags.now a.source.image.n a.expressions.places.now a.expressions.count) (get_or a.source.image.tags.now a.i 0) (get_or a.source.image.words.now a.i 0) t.result.table t.result.number c.refers_to-r.ensures.0 c.refers_to-r.ensures.1 c.if-s-lt-EXPR.false c.if-r-ne-EXPRESSIONS.false refl c.import_initialiser.ensures.does; same = c.import_initialiser.ensures.same }

@@ -1,9 +1,11 @@
 -- `import_operand` meets its contract: expression e is mapped, or imported.
 use Rattle.function_expressions.proofs.Needs.{need-idle}
+use Rattle.derive_state.proofs.State.{arrays_same, arrays_then}
+use mathlib.Core.Path.{refl}
 use Rattle.function_expressions.proofs.import_operand.Goals as goal
 
 pub returns-then-exprmap-e-ne0 : goal.returns-then-exprmap-e-ne0
-returns-then-exprmap-e-ne0 c = let a = c.args in need-idle c.requires.expressions a.image.n a.offset c.requires.e_lt_k.1 c.requires.valid_arrays c.requires.under c.requires.e_lt_k.0 c.if-exprmap-e-ne0.true
+returns-then-exprmap-e-ne0 c = record { does = let a = c.args in need-idle c.requires.expressions a.source.image.n a.source.offset refl c.requires.valid_arrays c.requires.under c.requires.e_lt_k c.if-exprmap-e-ne0.true; same = arrays_same _ }
 
 pub import_unmapped-requires : goal.import_unmapped-requires
 import_unmapped-requires c = record { ground = c.requires.ground; expressions = c.requires.expressions; e_lt_k = c.requires.e_lt_k; valid_arrays = c.requires.valid_arrays; under = c.requires.under }

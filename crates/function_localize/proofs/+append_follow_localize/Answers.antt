@@ -16,20 +16,22 @@ use Rattle.function_localize.proofs.Starts.{declares}
 use Rattle.function_localize.proofs.Locals.{exprs_low, runs_at, runs_from, going_at, exprs_in, index_in, begun_kept, begun-under, declare_none, going_start, word_in, word_fits, word_bodied, callee_low, callee-ready, callee_full, callee_runs, other_runs, going_full, going_next, keep_in, keep_long, keep_exprs, keep_low, names_full, names_in_lem, names_words, names_good, names_whole}
 use Rattle.function_localize.proofs.Follows.{follow-none, follow_old, follow-ready, follow-append}
 use Rattle.function_localize.proofs.Appending.{append-part, append-nested, append-standing, close-order, close_few, close_stacks, close_names, close-classes, close-room, append_done, append-none}
+use Rattle.derive_state.specs.Sizes.{going}
+use Rattle.std.proofs.lemmas.Result.{err_from_is_err_and}
+use Rattle.derive_state.proofs.State.{arrays_same, arrays_then}
 use Rattle.function_localize.proofs.+append_follow_localize.Goals as goal
-use Rattle.function_localize.proofs.+append_follow_localize.Goals.{localize-then-image-j-eq-CALLEE+else-e-2, localize-else-image-j-eq-CALLEE}
 
 pub append-record_at-s-requires : goal.append-record_at-s-requires
-append-record_at-s-requires t c = let a = c.args in record { tape = tape a.image.words.now a.image.tags.now a.image.n c.requires.ground.source; k_bound = omega arith; j_bound = c.requires.f_bound }
+append-record_at-s-requires t c = let a = c.args in record { tape = tape a.source.image.words.now a.source.image.tags.now a.source.image.n c.requires.ground.source; k_bound = omega arith; j_bound = c.requires.f_bound }
 
 pub append-record_end-end-requires : goal.append-record_end-end-requires
-append-record_end-end-requires t c = let a = c.args in record { tape = tape a.image.words.now a.image.tags.now a.image.n c.requires.ground.source; k_bound = omega arith; j_bound = c.requires.f_bound }
+append-record_end-end-requires t c = let a = c.args in record { tape = tape a.source.image.words.now a.source.image.tags.now a.source.image.n c.requires.ground.source; k_bound = omega arith; j_bound = c.requires.f_bound }
 
-pub append-localize-got-requires : goal.append-localize-got-requires
-append-localize-got-requires t c = let a = c.args in let q = c.decreases in (omega arith, (c.requires.ground, (append-part c.requires.ground c.requires.f_bound c.record_at-s.ensures c.record_end-end.ensures c.requires.nested_f.scopes, (append-nested c.requires.ground c.requires.f_bound c.record_at-s.ensures c.record_end-end.ensures c.requires.nested_f.scopes c.requires.nested_f, (c.requires.full_value, c.requires.valid_arrays)))))
+pub append-localize-requires : goal.append-localize-requires
+append-localize-requires t c = let a = c.args in let q = c.decreases in (omega arith, (c.requires.ground, (append-part c.requires.ground c.requires.f_bound c.record_at-s.ensures c.record_end-end.ensures c.requires.nested_f.scopes, (append-nested c.requires.ground c.requires.f_bound c.record_at-s.ensures c.record_end-end.ensures c.requires.nested_f.scopes c.requires.nested_f, (c.requires.stacks, c.requires.valid_arrays)))))
 
-pub append-returns-then-got : goal.append-returns-then-got
-append-returns-then-got t c = let a = c.args in append-none c.requires.ground c.requires.f_bound c.record_at-s.ensures c.record_end-end.ensures c.requires.nested_f.scopes a.room c.localize-got.ensures c.if-got.true
+pub append-returns-in_err-got : goal.append-returns-in_err-got
+append-returns-in_err-got t c = let p = err_from_is_err_and c.from_residual.result c.from_residual.ensures.1 in rw (p.1, p.2) (record { does = let a = c.args in append-none c.requires.ground c.requires.f_bound c.record_at-s.ensures c.record_end-end.ensures c.requires.nested_f.scopes a.room c.in_err-got.ensures.does refl; same = c.in_err-got.ensures.same })
 
 pub append-expressions_at-exprs-requires : goal.append-expressions_at-exprs-requires
 append-expressions_at-exprs-requires t c = let a = c.args in exprs_in (append-part c.requires.ground c.requires.f_bound c.record_at-s.ensures c.record_end-end.ensures c.requires.nested_f.scopes)
@@ -38,34 +40,34 @@ pub append-body_at-body-requires : goal.append-body_at-body-requires
 append-body_at-body-requires t c = let a = c.args in append-standing c.requires.ground c.requires.f_bound c.record_at-s.ensures c.record_end-end.ensures c.requires.nested_f.scopes
 
 pub append-append_record-requires : goal.append-append_record-requires
-append-append_record-requires t c = let a = c.args in record { s_le_exprs = close-order c.requires.ground c.requires.f_bound c.record_at-s.ensures c.record_end-end.ensures c.requires.nested_f.scopes c.expressions_at-exprs.ensures.0 c.body_at-body.ensures a.room c.requires.valid_arrays c.localize-got.ensures c.if-got.false; t_bound = close_few c.requires.ground c.requires.f_bound c.record_at-s.ensures c.record_end-end.ensures c.requires.nested_f.scopes c.expressions_at-exprs.ensures.0 c.body_at-body.ensures a.room c.requires.valid_arrays c.localize-got.ensures c.if-got.false; stacks = close_stacks c.requires.ground c.requires.f_bound c.record_at-s.ensures c.record_end-end.ensures c.requires.nested_f.scopes c.expressions_at-exprs.ensures.0 c.body_at-body.ensures a.room c.requires.valid_arrays c.localize-got.ensures c.if-got.false; body_len = close_names c.requires.ground c.requires.f_bound c.record_at-s.ensures c.record_end-end.ensures c.requires.nested_f.scopes c.expressions_at-exprs.ensures.0 c.body_at-body.ensures a.room c.requires.valid_arrays c.localize-got.ensures c.if-got.false; by_index = close-classes c.requires.ground c.requires.f_bound c.record_at-s.ensures c.record_end-end.ensures c.requires.nested_f.scopes c.expressions_at-exprs.ensures.0 c.body_at-body.ensures a.room c.requires.valid_arrays c.localize-got.ensures c.if-got.false; loglen_bound = close-room c.requires.ground c.requires.f_bound c.record_at-s.ensures c.record_end-end.ensures c.requires.nested_f.scopes c.expressions_at-exprs.ensures.0 c.body_at-body.ensures a.room c.requires.valid_arrays c.localize-got.ensures c.if-got.false }
+append-append_record-requires t c = let a = c.args in record { s_le_exprs = close-order c.requires.ground c.requires.f_bound c.record_at-s.ensures c.record_end-end.ensures c.requires.nested_f.scopes c.expressions_at-exprs.ensures.0 c.body_at-body.ensures a.room c.requires.valid_arrays c.in_ok-got.ensures.does refl; t_bound = (let z = close_few c.requires.ground c.requires.f_bound c.record_at-s.ensures c.record_end-end.ensures c.requires.nested_f.scopes c.expressions_at-exprs.ensures.0 c.body_at-body.ensures a.room c.requires.valid_arrays c.in_ok-got.ensures.does refl in (z.0, z.1, z.2, z.3, z.4)); stacks = close_stacks c.requires.ground c.requires.f_bound c.record_at-s.ensures c.record_end-end.ensures c.requires.nested_f.scopes c.expressions_at-exprs.ensures.0 c.body_at-body.ensures a.room c.requires.valid_arrays c.in_ok-got.ensures.does refl; body_len = close_names c.requires.ground c.requires.f_bound c.record_at-s.ensures c.record_end-end.ensures c.requires.nested_f.scopes c.expressions_at-exprs.ensures.0 c.body_at-body.ensures a.room c.requires.valid_arrays c.in_ok-got.ensures.does refl; by_index = close-classes c.requires.ground c.requires.f_bound c.record_at-s.ensures c.record_end-end.ensures c.requires.nested_f.scopes c.expressions_at-exprs.ensures.0 c.body_at-body.ensures a.room c.requires.valid_arrays c.in_ok-got.ensures.does refl; loglen_bound = close-room c.requires.ground c.requires.f_bound c.record_at-s.ensures c.record_end-end.ensures c.requires.nested_f.scopes c.expressions_at-exprs.ensures.0 c.body_at-body.ensures a.room c.requires.valid_arrays c.in_ok-got.ensures.does refl }
 
 pub append-returns : goal.append-returns
-append-returns t c = let a = c.args in append_done c.requires.ground c.requires.f_bound c.record_at-s.ensures c.record_end-end.ensures c.requires.nested_f.scopes c.expressions_at-exprs.ensures.0 c.body_at-body.ensures a.room c.requires.valid_arrays c.localize-got.ensures c.if-got.false c.requires.nested_f c.append_record.ensures
+append-returns t c = record { does = let a = c.args in append_done c.requires.ground c.requires.f_bound c.record_at-s.ensures c.record_end-end.ensures c.requires.nested_f.scopes c.expressions_at-exprs.ensures.0 c.body_at-body.ensures a.room c.requires.valid_arrays c.in_ok-got.ensures.does refl c.requires.nested_f c.append_record.ensures; same = (let S = c.in_ok-got.ensures.same in record { log_same = S.log_same; logtags_same = S.logtags_same; starts_same = S.starts_same; maps_same = S.maps_same; buckets_same = S.buckets_same }) }
 
 pub follow-returns-then-room-eq0 : goal.follow-returns-then-room-eq0
-follow-returns-then-room-eq0 t c = let a = c.args in record { import_function_ensures = follow-none a.image.words.now a.image.n a.offset a.f a.log.now a.logtags.now a.starts.now a.maps.now a.buckets.now a.stacks.now a.ends a.room c.if-room-eq0.true c.requires.full_value.0 c.requires.full_value.1 c.requires.valid_arrays; places_after = λ _. c.requires.places_value }
+follow-returns-then-room-eq0 t c = let a = c.args in record { import_function_ensures = record { does = follow-none a.source.image.words.now a.source.image.n a.source.offset a.f a.derived.now.log.now a.derived.now.logtags.now a.derived.now.starts.now a.derived.now.maps.now a.derived.now.buckets.now a.stacks.now (going a.ends) a.room c.if-room-eq0.true refl c.requires.stacks c.requires.valid_arrays; same = arrays_same _ }; places_after = λ _. c.requires.places_value }
 
 pub follow-known-requires : goal.follow-known-requires
-follow-known-requires t c = let a = c.args in record { source = c.requires.ground.source; n_value = c.requires.ground.names; f_bound = c.requires.f_bound; bearing = bearing c.requires.valid_arrays }
+follow-known-requires t c = let v = c.view.ensures in let a = c.args in record { source = c.requires.ground.source; n_value = c.requires.ground.names; f_bound = c.requires.f_bound; bearing = rw (v.0, v.1, v.2, v.5) (bearing c.requires.valid_arrays) }
 
 pub follow-returns-then-is_some : goal.follow-returns-then-is_some
-follow-returns-then-is_some t c = let a = c.args in record { import_function_ensures = follow_old a.image.words.now a.image.n a.offset a.f a.log.now a.logtags.now a.starts.now a.maps.now a.buckets.now a.stacks.now a.ends a.room c.if-room-eq0.false (plus_one c.known.result) c.known.ensures (counted c.known.result (sym c.is_some.ensures ∙ c.if-is_some.true)) c.requires.full_value.0 c.requires.full_value.1 c.requires.valid_arrays; places_after = λ _. c.requires.places_value }
+follow-returns-then-is_some t c = let v = c.view.ensures in let a = c.args in record { import_function_ensures = record { does = follow_old a.source.image.words.now a.source.image.n a.source.offset a.f a.derived.now.log.now a.derived.now.logtags.now a.derived.now.starts.now a.derived.now.maps.now a.derived.now.buckets.now a.stacks.now (going a.ends) a.room c.if-room-eq0.false (plus_one c.known.result) (rw (v.0, v.1, v.2, v.5) at c.known.ensures) (counted c.known.result (sym c.is_some.ensures ∙ c.if-is_some.true)) refl c.requires.stacks c.requires.valid_arrays; same = arrays_same _ }; places_after = λ _. c.requires.places_value }
 
 pub follow-overflow_sub-room : goal.follow-overflow_sub-room
 follow-overflow_sub-room t c = let h = c.if-room-eq0.false in omega arith
 
-pub follow-append-got-requires : goal.follow-append-got-requires
-follow-append-got-requires t c = let a = c.args in let h = c.if-room-eq0.false in let q = c.decreases in (omega arith, (c.requires.ground, (c.requires.f_bound, (follow-ready a.image.words.now a.image.n a.offset a.f a.log.now a.logtags.now a.starts.now a.maps.now a.buckets.now a.stacks.now a.ends a.room c.if-room-eq0.false (plus_one c.known.result) c.known.ensures (not_counted c.known.result (sym c.is_some.ensures ∙ c.if-is_some.false)) c.requires.nested_at, (c.requires.full_value, c.requires.valid_arrays)))))
+pub follow-append-requires : goal.follow-append-requires
+follow-append-requires t c = let v = c.view.ensures in let a = c.args in let h = c.if-room-eq0.false in let q = c.decreases in (omega arith, (c.requires.ground, (c.requires.f_bound, (follow-ready a.source.image.words.now a.source.image.n a.source.offset a.f a.derived.now.log.now a.derived.now.logtags.now a.derived.now.starts.now a.derived.now.maps.now a.derived.now.buckets.now a.stacks.now (going a.ends) a.room c.if-room-eq0.false (plus_one c.known.result) (rw (v.0, v.1, v.2, v.5) at c.known.ensures) (not_counted c.known.result (sym c.is_some.ensures ∙ c.if-is_some.false)) c.requires.nested_at, (c.requires.stacks, c.requires.valid_arrays)))))
 
-pub follow-returns-then-got : goal.follow-returns-then-got
-follow-returns-then-got t c = let a = c.args in record { import_function_ensures = follow-append a.image.words.now a.image.n a.offset a.f a.log.now a.logtags.now a.starts.now a.maps.now a.buckets.now a.stacks.now a.ends a.room c.if-room-eq0.false (plus_one c.known.result) c.known.ensures (not_counted c.known.result (sym c.is_some.ensures ∙ c.if-is_some.false)) c.append-got.ensures; places_after = λ q. absurd (false≢true (sym q ∙ c.if-got.true)) }
+pub follow-returns-in_err-got : goal.follow-returns-in_err-got
+follow-returns-in_err-got t c = let p = err_from_is_err_and c.from_residual.result c.from_residual.ensures.1 in rw (p.1, p.2) (let v = c.view.ensures in let a = c.args in record { import_function_ensures = record { does = follow-append a.source.image.words.now a.source.image.n a.source.offset a.f a.derived.now.log.now a.derived.now.logtags.now a.derived.now.starts.now a.derived.now.maps.now a.derived.now.buckets.now a.stacks.now (going a.ends) a.room c.if-room-eq0.false (plus_one c.known.result) (rw (v.0, v.1, v.2, v.5) at c.known.ensures) (not_counted c.known.result (sym c.is_some.ensures ∙ c.if-is_some.false)) c.in_err-got.ensures.does; same = c.in_err-got.ensures.same }; places_after = λ q. absurd (false≢true (sym q)) })
 
 pub follow-index_expressions-requires : goal.follow-index_expressions-requires
 follow-index_expressions-requires t c = c.requires.tags_len
 
 pub follow-returns : goal.follow-returns
-follow-returns t c = let a = c.args in record { import_function_ensures = follow-append a.image.words.now a.image.n a.offset a.f a.log.now a.logtags.now a.starts.now a.maps.now a.buckets.now a.stacks.now a.ends a.room c.if-room-eq0.false (plus_one c.known.result) c.known.ensures (not_counted c.known.result (sym c.is_some.ensures ∙ c.if-is_some.false)) c.append-got.ensures; places_after = λ _. c.index_expressions.ensures }
+follow-returns t c = let v = c.view.ensures in let a = c.args in record { import_function_ensures = record { does = follow-append a.source.image.words.now a.source.image.n a.source.offset a.f a.derived.now.log.now a.derived.now.logtags.now a.derived.now.starts.now a.derived.now.maps.now a.derived.now.buckets.now a.stacks.now (going a.ends) a.room c.if-room-eq0.false (plus_one c.known.result) (rw (v.0, v.1, v.2, v.5) at c.known.ensures) (not_counted c.known.result (sym c.is_some.ensures ∙ c.if-is_some.false)) c.in_ok-got.ensures.does; same = c.in_ok-got.ensures.same }; places_after = λ _. c.index_expressions.ensures }
 
 pub localize-index_parts-at-requires : goal.localize-index_parts-at-requires
 localize-index_parts-at-requires t c = c.requires.part
@@ -73,17 +75,17 @@ localize-index_parts-at-requires t c = c.requires.part
 pub localize-no_expressions-requires : goal.localize-no_expressions-requires
 localize-no_expressions-requires t c = tt
 
-pub localize-declare-e-requires : goal.localize-declare-e-requires
-localize-declare-e-requires t c = let a = c.args in let x = c.index_parts-at.ensures in let b = c.no_expressions.ensures in record { ground = c.requires.ground; expressions = expressions c.requires.part x; declares = declares c.requires.part x; full_value = ap (λ e. e.full) b; valid_arrays = begun_kept c.requires.part x c.requires.valid_arrays b; under = begun-under c.requires.part x c.requires.valid_arrays b a.stacks.now c.requires.full_value.1 }
+pub localize-declare-requires : goal.localize-declare-requires
+localize-declare-requires t c = let a = c.args in let x = c.index_parts-at.ensures in let b = (ap going c.no_expressions.ensures) in record { ground = c.requires.ground; expressions = expressions c.requires.part x; declares = declares c.requires.part x; valid_arrays = begun_kept c.requires.part x c.requires.valid_arrays b; under = begun-under c.requires.part x c.requires.valid_arrays b a.stacks.now c.requires.stacks }
 
-pub localize-returns-then-e : goal.localize-returns-then-e
-localize-returns-then-e t c = let a = c.args in declare_none c.requires.part c.index_parts-at.ensures c.requires.valid_arrays a.room c.no_expressions.ensures c.declare-e.ensures c.if-e.true
+pub localize-returns-in_err-e : goal.localize-returns-in_err-e
+localize-returns-in_err-e t c = let p = err_from_is_err_and c.from_residual.result c.from_residual.ensures.1 in rw (p.1, p.2) (record { does = let a = c.args in declare_none c.requires.part c.index_parts-at.ensures c.requires.valid_arrays a.room (ap going c.no_expressions.ensures) c.in_err-e.ensures.does refl; same = c.in_err-e.ensures.same })
 
 pub localize-loop-i-init : goal.localize-loop-i-init
-localize-loop-i-init t c = record { on = λ _ _ g. g }
+localize-loop-i-init t c = (record { on = λ _ _ g. g }, arrays_same _)
 
 pub localize-copy_mapped_run-r-requires : goal.localize-copy_mapped_run-r-requires
-localize-copy_mapped_run-r-requires t c = let a = c.args in let g = c.loop-i.invariant.on refl c.requires.valid_arrays (going_start c.requires.part c.index_parts-at.ensures c.requires.valid_arrays a.room c.no_expressions.ensures c.declare-e.ensures c.if-e.false) in let K = g.turn.way.kept in let U = g.turn.way.under in record { maps_len = K.maps-six; legible = (legible_all (k_few c.requires.part g.read) g.turn.legible, U.stacks_are.high', made_small U) }
+localize-copy_mapped_run-r-requires t c = let a = c.args in let g = c.loop-i.invariant.0.on refl c.requires.valid_arrays (going_start c.requires.part c.index_parts-at.ensures c.requires.valid_arrays a.room (ap going c.no_expressions.ensures) c.in_ok-e.ensures.does refl) in let K = g.turn.way.kept in let U = g.turn.way.under in record { maps_len = K.maps-six; legible = (legible_all (k_few c.requires.part g.read) g.turn.legible, U.stacks_are.high', made_small U) }
 
 pub localize-overflow_sub-r : goal.localize-overflow_sub-r
 localize-overflow_sub-r t c = run_on _ _ _ c.copy_mapped_run-r.ensures.reach
@@ -92,58 +94,67 @@ pub localize-advance-e-requires : goal.localize-advance-e-requires
 localize-advance-e-requires t c = let R = c.copy_mapped_run-r.ensures in run_room _ _ _ _ R.reach R.room
 
 pub localize-overflow_add-i : goal.localize-overflow_add-i
-localize-overflow_add-i t c = let a = c.args in let g = c.loop-i.invariant.on refl c.requires.valid_arrays (going_start c.requires.part c.index_parts-at.ensures c.requires.valid_arrays a.room c.no_expressions.ensures c.declare-e.ensures c.if-e.false) in let l = c.loop-i in let k = going_run c.requires.ground.source c.requires.part a.offset a.room _ (expressions c.requires.part g.read) _ _ c.requires.valid_arrays a.stacks.now l.log l.logtags l.starts l.maps l.buckets l.exprmap l.e g c.copy_mapped_run-r.ensures c.advance-e.ensures in let h = word_in c.requires.part c.requires.valid_arrays k c.if-i-end.true in place-next h
+localize-overflow_add-i t c = let a = c.args in let g = c.loop-i.invariant.0.on refl c.requires.valid_arrays (going_start c.requires.part c.index_parts-at.ensures c.requires.valid_arrays a.room (ap going c.no_expressions.ensures) c.in_ok-e.ensures.does refl) in let l = c.loop-i in let k = going_run c.requires.ground.source c.requires.part a.source.offset a.room _ (expressions c.requires.part g.read) _ _ c.requires.valid_arrays a.stacks.now l.derived.log.now l.derived.logtags.now l.derived.starts.now l.derived.maps.now l.derived.buckets.now l.exprmap (going l.e) g c.copy_mapped_run-r.ensures (ap going c.advance-e.ensures) in let h = word_in c.requires.part c.requires.valid_arrays k c.if-i-end.true in place-next h
 
 pub localize-span_undefined-u-requires : goal.localize-span_undefined-u-requires
-localize-span_undefined-u-requires t c = let a = c.args in let g = c.loop-i.invariant.on refl c.requires.valid_arrays (going_start c.requires.part c.index_parts-at.ensures c.requires.valid_arrays a.room c.no_expressions.ensures c.declare-e.ensures c.if-e.false) in let l = c.loop-i in let k = going_run c.requires.ground.source c.requires.part a.offset a.room _ (expressions c.requires.part g.read) _ _ c.requires.valid_arrays a.stacks.now l.log l.logtags l.starts l.maps l.buckets l.exprmap l.e g c.copy_mapped_run-r.ensures c.advance-e.ensures in (k.turn.legible.stretch, c.if-i-end.true)
+localize-span_undefined-u-requires t c = let a = c.args in let g = c.loop-i.invariant.0.on refl c.requires.valid_arrays (going_start c.requires.part c.index_parts-at.ensures c.requires.valid_arrays a.room (ap going c.no_expressions.ensures) c.in_ok-e.ensures.does refl) in let l = c.loop-i in let k = going_run c.requires.ground.source c.requires.part a.source.offset a.room _ (expressions c.requires.part g.read) _ _ c.requires.valid_arrays a.stacks.now l.derived.log.now l.derived.logtags.now l.derived.starts.now l.derived.maps.now l.derived.buckets.now l.exprmap (going l.e) g c.copy_mapped_run-r.ensures (ap going c.advance-e.ensures) in (k.turn.legible.stretch, c.if-i-end.true)
 
-pub localize-bounds-image-j : goal.localize-bounds-image-j
-localize-bounds-image-j t c = let a = c.args in let g = c.loop-i.invariant.on refl c.requires.valid_arrays (going_start c.requires.part c.index_parts-at.ensures c.requires.valid_arrays a.room c.no_expressions.ensures c.declare-e.ensures c.if-e.false) in let l = c.loop-i in let k = going_run c.requires.ground.source c.requires.part a.offset a.room _ (expressions c.requires.part g.read) _ _ c.requires.valid_arrays a.stacks.now l.log l.logtags l.starts l.maps l.buckets l.exprmap l.e g c.copy_mapped_run-r.ensures c.advance-e.ensures in let h = word_in c.requires.part c.requires.valid_arrays k c.if-i-end.true in h
+pub localize-bounds-source-j : goal.localize-bounds-source-j
+localize-bounds-source-j t c = let a = c.args in let g = c.loop-i.invariant.0.on refl c.requires.valid_arrays (going_start c.requires.part c.index_parts-at.ensures c.requires.valid_arrays a.room (ap going c.no_expressions.ensures) c.in_ok-e.ensures.does refl) in let l = c.loop-i in let k = going_run c.requires.ground.source c.requires.part a.source.offset a.room _ (expressions c.requires.part g.read) _ _ c.requires.valid_arrays a.stacks.now l.derived.log.now l.derived.logtags.now l.derived.starts.now l.derived.maps.now l.derived.buckets.now l.exprmap (going l.e) g c.copy_mapped_run-r.ensures (ap going c.advance-e.ensures) in let h = word_in c.requires.part c.requires.valid_arrays k c.if-i-end.true in h
 
-pub localize-offset_bounds-image-j : goal.localize-offset_bounds-image-j
-localize-offset_bounds-image-j t c = let a = c.args in let g = c.loop-i.invariant.on refl c.requires.valid_arrays (going_start c.requires.part c.index_parts-at.ensures c.requires.valid_arrays a.room c.no_expressions.ensures c.declare-e.ensures c.if-e.false) in let l = c.loop-i in let k = going_run c.requires.ground.source c.requires.part a.offset a.room _ (expressions c.requires.part g.read) _ _ c.requires.valid_arrays a.stacks.now l.log l.logtags l.starts l.maps l.buckets l.exprmap l.e g c.copy_mapped_run-r.ensures c.advance-e.ensures in let h = word_in c.requires.part c.requires.valid_arrays k c.if-i-end.true in place_4 h
+pub localize-offset_bounds-source-j : goal.localize-offset_bounds-source-j
+localize-offset_bounds-source-j t c = let a = c.args in let g = c.loop-i.invariant.0.on refl c.requires.valid_arrays (going_start c.requires.part c.index_parts-at.ensures c.requires.valid_arrays a.room (ap going c.no_expressions.ensures) c.in_ok-e.ensures.does refl) in let l = c.loop-i in let k = going_run c.requires.ground.source c.requires.part a.source.offset a.room _ (expressions c.requires.part g.read) _ _ c.requires.valid_arrays a.stacks.now l.derived.log.now l.derived.logtags.now l.derived.starts.now l.derived.maps.now l.derived.buckets.now l.exprmap (going l.e) g c.copy_mapped_run-r.ensures (ap going c.advance-e.ensures) in let h = word_in c.requires.part c.requires.valid_arrays k c.if-i-end.true in place_4 h
 
-pub localize-bounds-image-j-then-image-j-eq-CALLEE : goal.localize-bounds-image-j-then-image-j-eq-CALLEE
-localize-bounds-image-j-then-image-j-eq-CALLEE t c = let a = c.args in let g = c.loop-i.invariant.on refl c.requires.valid_arrays (going_start c.requires.part c.index_parts-at.ensures c.requires.valid_arrays a.room c.no_expressions.ensures c.declare-e.ensures c.if-e.false) in let l = c.loop-i in let k = going_run c.requires.ground.source c.requires.part a.offset a.room _ (expressions c.requires.part g.read) _ _ c.requires.valid_arrays a.stacks.now l.log l.logtags l.starts l.maps l.buckets l.exprmap l.e g c.copy_mapped_run-r.ensures c.advance-e.ensures in let h = word_in c.requires.part c.requires.valid_arrays k c.if-i-end.true in h
+pub localize-bounds-source-j-then-source-j-eq-CALLEE : goal.localize-bounds-source-j-then-source-j-eq-CALLEE
+localize-bounds-source-j-then-source-j-eq-CALLEE t c = let a = c.args in let g = c.loop-i.invariant.0.on refl c.requires.valid_arrays (going_start c.requires.part c.index_parts-at.ensures c.requires.valid_arrays a.room (ap going c.no_expressions.ensures) c.in_ok-e.ensures.does refl) in let l = c.loop-i in let k = going_run c.requires.ground.source c.requires.part a.source.offset a.room _ (expressions c.requires.part g.read) _ _ c.requires.valid_arrays a.stacks.now l.derived.log.now l.derived.logtags.now l.derived.starts.now l.derived.maps.now l.derived.buckets.now l.exprmap (going l.e) g c.copy_mapped_run-r.ensures (ap going c.advance-e.ensures) in let h = word_in c.requires.part c.requires.valid_arrays k c.if-i-end.true in h
 
 pub localize-overflow_add-exprs : goal.localize-overflow_add-exprs
 localize-overflow_add-exprs t c = place-next (exprs_low c.requires.part c.index_parts-at.ensures)
 
-pub localize-follow-e-requires : goal.localize-follow-e-requires
-localize-follow-e-requires t c = let a = c.args in let g = c.loop-i.invariant.on refl c.requires.valid_arrays (going_start c.requires.part c.index_parts-at.ensures c.requires.valid_arrays a.room c.no_expressions.ensures c.declare-e.ensures c.if-e.false) in let l = c.loop-i in let k = going_run c.requires.ground.source c.requires.part a.offset a.room _ (expressions c.requires.part g.read) _ _ c.requires.valid_arrays a.stacks.now l.log l.logtags l.starts l.maps l.buckets l.exprmap l.e g c.copy_mapped_run-r.ensures c.advance-e.ensures in let q = c.decreases in (omega arith, (c.requires.ground, (callee_low c.requires.part c.requires.valid_arrays k c.if-i-end.true c.if-image-j-eq-CALLEE.true refl, (callee-ready c.requires.part c.requires.valid_arrays k c.if-i-end.true c.if-image-j-eq-CALLEE.true refl c.requires.nested, ((k.turn.way.going, k.turn.way.under.stacks_are), (k.turn.way.kept, (index_in c.requires.part k.read.ea_is, k.read.places_are)))))))
+pub localize-follow-requires : goal.localize-follow-requires
+localize-follow-requires t c = let a = c.args in let g = c.loop-i.invariant.0.on refl c.requires.valid_arrays (going_start c.requires.part c.index_parts-at.ensures c.requires.valid_arrays a.room (ap going c.no_expressions.ensures) c.in_ok-e.ensures.does refl) in let l = c.loop-i in let k = going_run c.requires.ground.source c.requires.part a.source.offset a.room _ (expressions c.requires.part g.read) _ _ c.requires.valid_arrays a.stacks.now l.derived.log.now l.derived.logtags.now l.derived.starts.now l.derived.maps.now l.derived.buckets.now l.exprmap (going l.e) g c.copy_mapped_run-r.ensures (ap going c.advance-e.ensures) in let q = c.decreases in (omega arith, (c.requires.ground, (callee_low c.requires.part c.requires.valid_arrays k c.if-i-end.true c.if-source-j-eq-CALLEE.true refl, (callee-ready c.requires.part c.requires.valid_arrays k c.if-i-end.true c.if-source-j-eq-CALLEE.true refl c.requires.nested, (k.turn.way.under.stacks_are, (k.turn.way.kept, (index_in c.requires.part k.read.ea_is, k.read.places_are)))))))
 
-pub localize-returns-then-e-2 : goal.localize-returns-then-e-2
-localize-returns-then-e-2 t c = let a = c.args in let g = c.loop-i.invariant.on refl c.requires.valid_arrays (going_start c.requires.part c.index_parts-at.ensures c.requires.valid_arrays a.room c.no_expressions.ensures c.declare-e.ensures c.if-e.false) in let l = c.loop-i in let k = going_run c.requires.ground.source c.requires.part a.offset a.room _ (expressions c.requires.part g.read) _ _ c.requires.valid_arrays a.stacks.now l.log l.logtags l.starts l.maps l.buckets l.exprmap l.e g c.copy_mapped_run-r.ensures c.advance-e.ensures in callee_full c.requires.part c.requires.valid_arrays k c.if-i-end.true c.if-image-j-eq-CALLEE.true refl c.follow-e.ensures.import_function_ensures c.if-e-2.true
+pub localize-returns-in_err-e-2 : goal.localize-returns-in_err-e-2
+localize-returns-in_err-e-2 t c = let p = err_from_is_err_and c.from_residual-in_err-e-2.result c.from_residual-in_err-e-2.ensures.1 in rw (p.1, p.2) (record { does = let a = c.args in let g = c.loop-i.invariant.0.on refl c.requires.valid_arrays (going_start c.requires.part c.index_parts-at.ensures c.requires.valid_arrays a.room (ap going c.no_expressions.ensures) c.in_ok-e.ensures.does refl) in let l = c.loop-i in let k = going_run c.requires.ground.source c.requires.part a.source.offset a.room _ (expressions c.requires.part g.read) _ _ c.requires.valid_arrays a.stacks.now l.derived.log.now l.derived.logtags.now l.derived.starts.now l.derived.maps.now l.derived.buckets.now l.exprmap (going l.e) g c.copy_mapped_run-r.ensures (ap going c.advance-e.ensures) in callee_full c.requires.part c.requires.valid_arrays k c.if-i-end.true c.if-source-j-eq-CALLEE.true refl c.in_err-e-2.ensures.import_function_ensures.does refl; same = arrays_then c.in_ok-e.ensures.same (arrays_then c.loop-i.invariant.1 c.in_err-e-2.ensures.import_function_ensures.same) })
 
-pub localize-put_word-e-requires : goal.localize-put_word-e-requires
-localize-put_word-e-requires t c = let a = c.args in let g = c.loop-i.invariant.on refl c.requires.valid_arrays (going_start c.requires.part c.index_parts-at.ensures c.requires.valid_arrays a.room c.no_expressions.ensures c.declare-e.ensures c.if-e.false) in let l = c.loop-i in let k = going_run c.requires.ground.source c.requires.part a.offset a.room _ (expressions c.requires.part g.read) _ _ c.requires.valid_arrays a.stacks.now l.log l.logtags l.starts l.maps l.buckets l.exprmap l.e g c.copy_mapped_run-r.ensures c.advance-e.ensures in let w = c.follow-e.ensures.import_function_ensures in let z = c.if-e-2.false in record { ground = c.requires.ground; bearing = bearing (w.kept z); maps_len = (w.kept z).maps-six; i_bound = word_fits c.requires.part c.requires.valid_arrays k c.if-i-end.true; stacks = w.stacks_are z }
+pub localize-put_word-requires : goal.localize-put_word-requires
+localize-put_word-requires t c = let v = c.view.ensures in let a = c.args in let g = c.loop-i.invariant.0.on refl c.requires.valid_arrays (going_start c.requires.part c.index_parts-at.ensures c.requires.valid_arrays a.room (ap going c.no_expressions.ensures) c.in_ok-e.ensures.does refl) in let l = c.loop-i in let k = going_run c.requires.ground.source c.requires.part a.source.offset a.room _ (expressions c.requires.part g.read) _ _ c.requires.valid_arrays a.stacks.now l.derived.log.now l.derived.logtags.now l.derived.starts.now l.derived.maps.now l.derived.buckets.now l.exprmap (going l.e) g c.copy_mapped_run-r.ensures (ap going c.advance-e.ensures) in let w = c.in_ok-e-2.ensures.import_function_ensures.does in let z = refl in record { ground = c.requires.ground; bearing = rw (v.0, v.1, v.2, v.5) (bearing (w.kept z)); maps_len = rw v.3 (w.kept z).maps-six; i_bound = word_fits c.requires.part c.requires.valid_arrays k c.if-i-end.true; stacks = rw v.5 (w.stacks_are z) }
 
-pub localize-import_word-e-requires : goal.localize-import_word-e-requires
-localize-import_word-e-requires t c = let a = c.args in let g = c.loop-i.invariant.on refl c.requires.valid_arrays (going_start c.requires.part c.index_parts-at.ensures c.requires.valid_arrays a.room c.no_expressions.ensures c.declare-e.ensures c.if-e.false) in let l = c.loop-i in let k = going_run c.requires.ground.source c.requires.part a.offset a.room _ (expressions c.requires.part g.read) _ _ c.requires.valid_arrays a.stacks.now l.log l.logtags l.starts l.maps l.buckets l.exprmap l.e g c.copy_mapped_run-r.ensures c.advance-e.ensures in record { ground = c.requires.ground; expressions = expressions c.requires.part k.read; bodied = word_bodied c.requires.part c.requires.valid_arrays k c.if-i-end.true; full_value = k.turn.way.going; valid_arrays = k.turn.way.kept; under = k.turn.way.under }
+pub localize-import_word-requires : goal.localize-import_word-requires
+localize-import_word-requires t c = let a = c.args in let g = c.loop-i.invariant.0.on refl c.requires.valid_arrays (going_start c.requires.part c.index_parts-at.ensures c.requires.valid_arrays a.room (ap going c.no_expressions.ensures) c.in_ok-e.ensures.does refl) in let l = c.loop-i in let k = going_run c.requires.ground.source c.requires.part a.source.offset a.room _ (expressions c.requires.part g.read) _ _ c.requires.valid_arrays a.stacks.now l.derived.log.now l.derived.logtags.now l.derived.starts.now l.derived.maps.now l.derived.buckets.now l.exprmap (going l.e) g c.copy_mapped_run-r.ensures (ap going c.advance-e.ensures) in record { ground = c.requires.ground; expressions = expressions c.requires.part k.read; bodied = word_bodied c.requires.part c.requires.valid_arrays k c.if-i-end.true; valid_arrays = k.turn.way.kept; under = k.turn.way.under }
 
-pub localize-returns-then-e-3 : goal.localize-returns-then-e-3
-localize-returns-then-e-3 t c = let a = c.args in let g = c.loop-i.invariant.on refl c.requires.valid_arrays (going_start c.requires.part c.index_parts-at.ensures c.requires.valid_arrays a.room c.no_expressions.ensures c.declare-e.ensures c.if-e.false) in let l = c.loop-i in let k = going_run c.requires.ground.source c.requires.part a.offset a.room _ (expressions c.requires.part g.read) _ _ c.requires.valid_arrays a.stacks.now l.log l.logtags l.starts l.maps l.buckets l.exprmap l.e g c.copy_mapped_run-r.ensures c.advance-e.ensures in elim c.if-image-j-eq-CALLEE.branch [ localize-then-image-j-eq-CALLEE+else-e-2 w ↦ going_full c.requires.part c.requires.valid_arrays k c.if-i-end.true c.span_undefined-u.ensures (runs_at (callee_runs c.requires.part c.requires.valid_arrays k c.if-i-end.true w.if-image-j-eq-CALLEE.true refl w.follow-e.ensures.import_function_ensures w.if-e-2.false c.span_undefined-u.result w.put_word-e.ensures) w.log-is w.logtags-is w.starts-is w.maps-is w.buckets-is w.stacks-is w.exprmap-is w.e-is) c.if-e-3.true | localize-else-image-j-eq-CALLEE w ↦ going_full c.requires.part c.requires.valid_arrays k c.if-i-end.true c.span_undefined-u.ensures (runs_at (other_runs c.requires.part c.requires.valid_arrays k c.if-i-end.true w.if-image-j-eq-CALLEE.false c.span_undefined-u.result (runs_from refl w.import_word-e.ensures)) w.log-is w.logtags-is w.starts-is w.maps-is w.buckets-is w.stacks-is w.exprmap-is w.e-is) c.if-e-3.true ]
+pub localize-returns-in_err-e-3 : goal.localize-returns-in_err-e-3
+localize-returns-in_err-e-3 t c = let v = c.view.ensures in let p = err_from_is_err_and c.from_residual-in_err-e-3.result c.from_residual-in_err-e-3.ensures.1 in rw (p.1, p.2) (record { does = let a = c.args in let g = c.loop-i.invariant.0.on refl c.requires.valid_arrays (going_start c.requires.part c.index_parts-at.ensures c.requires.valid_arrays a.room (ap going c.no_expressions.ensures) c.in_ok-e.ensures.does refl) in let l = c.loop-i in let k = going_run c.requires.ground.source c.requires.part a.source.offset a.room _ (expressions c.requires.part g.read) _ _ c.requires.valid_arrays a.stacks.now l.derived.log.now l.derived.logtags.now l.derived.starts.now l.derived.maps.now l.derived.buckets.now l.exprmap (going l.e) g c.copy_mapped_run-r.ensures (ap going c.advance-e.ensures) in going_full c.requires.part c.requires.valid_arrays k c.if-i-end.true c.span_undefined-u.ensures (callee_runs c.requires.part c.requires.valid_arrays k c.if-i-end.true c.if-source-j-eq-CALLEE.true refl c.in_ok-e-2.ensures.import_function_ensures.does refl c.span_undefined-u.result (rw (v.0, v.1, v.2, v.3, v.5) at c.in_err-e-3.ensures)) refl; same = arrays_then c.in_ok-e.ensures.same (arrays_then c.loop-i.invariant.1 c.in_ok-e-2.ensures.import_function_ensures.same) })
 
-pub localize-loop-i-smaller-else-e-3 : goal.localize-loop-i-smaller-else-e-3
-localize-loop-i-smaller-else-e-3 t c = let h = c.loop-i-test.true in let z = c.copy_mapped_run-r.ensures.reach in fewer_word _ _ _ _ h z
+pub localize-returns-in_err-e-4 : goal.localize-returns-in_err-e-4
+localize-returns-in_err-e-4 t c = let p = err_from_is_err_and c.from_residual-in_err-e-4.result c.from_residual-in_err-e-4.ensures.1 in rw (p.1, p.2) (record { does = let a = c.args in let g = c.loop-i.invariant.0.on refl c.requires.valid_arrays (going_start c.requires.part c.index_parts-at.ensures c.requires.valid_arrays a.room (ap going c.no_expressions.ensures) c.in_ok-e.ensures.does refl) in let l = c.loop-i in let k = going_run c.requires.ground.source c.requires.part a.source.offset a.room _ (expressions c.requires.part g.read) _ _ c.requires.valid_arrays a.stacks.now l.derived.log.now l.derived.logtags.now l.derived.starts.now l.derived.maps.now l.derived.buckets.now l.exprmap (going l.e) g c.copy_mapped_run-r.ensures (ap going c.advance-e.ensures) in going_full c.requires.part c.requires.valid_arrays k c.if-i-end.true c.span_undefined-u.ensures (other_runs c.requires.part c.requires.valid_arrays k c.if-i-end.true c.if-source-j-eq-CALLEE.false c.span_undefined-u.result (runs_from refl c.in_err-e-4.ensures.does)) refl; same = arrays_then c.in_ok-e.ensures.same (arrays_then c.loop-i.invariant.1 c.in_err-e-4.ensures.same) })
 
-pub localize-loop-i-preserved-else-e-3 : goal.localize-loop-i-preserved-else-e-3
-localize-loop-i-preserved-else-e-3 t c = let a = c.args in record { on = λ q K₀ g₀. let g = c.loop-i.invariant.on q K₀ g₀ in let l = c.loop-i in let k = going_run c.requires.ground.source c.requires.part a.offset a.room _ (expressions c.requires.part g.read) _ _ K₀ _ l.log l.logtags l.starts l.maps l.buckets l.exprmap l.e g c.copy_mapped_run-r.ensures c.advance-e.ensures in elim c.if-image-j-eq-CALLEE.branch [ localize-then-image-j-eq-CALLEE+else-e-2 w ↦ going_at (w.places-is ∙ w.follow-e.ensures.places_after w.if-e-2.false ∙ sym k.read.places_are) (going_next c.requires.part K₀ k c.if-i-end.true c.span_undefined-u.ensures (runs_at (callee_runs c.requires.part K₀ k c.if-i-end.true w.if-image-j-eq-CALLEE.true refl w.follow-e.ensures.import_function_ensures w.if-e-2.false c.span_undefined-u.result w.put_word-e.ensures) w.log-is w.logtags-is w.starts-is w.maps-is w.buckets-is w.stacks-is w.exprmap-is w.e-is) c.if-e-3.false) | localize-else-image-j-eq-CALLEE w ↦ going_at w.places-is (going_next c.requires.part K₀ k c.if-i-end.true c.span_undefined-u.ensures (runs_at (other_runs c.requires.part K₀ k c.if-i-end.true w.if-image-j-eq-CALLEE.false c.span_undefined-u.result (runs_from q w.import_word-e.ensures)) w.log-is w.logtags-is w.starts-is w.maps-is w.buckets-is w.stacks-is w.exprmap-is w.e-is) c.if-e-3.false) ] }
+pub localize-loop-i-smaller-then-source-j-eq-CALLEE : goal.localize-loop-i-smaller-then-source-j-eq-CALLEE
+localize-loop-i-smaller-then-source-j-eq-CALLEE t c = let h = c.loop-i-test.true in let z = c.copy_mapped_run-r.ensures.reach in fewer_word _ _ _ _ h z
+
+pub localize-loop-i-smaller-else-source-j-eq-CALLEE : goal.localize-loop-i-smaller-else-source-j-eq-CALLEE
+localize-loop-i-smaller-else-source-j-eq-CALLEE t c = let h = c.loop-i-test.true in let z = c.copy_mapped_run-r.ensures.reach in fewer_word _ _ _ _ h z
+
+pub localize-loop-i-preserved-then-source-j-eq-CALLEE : goal.localize-loop-i-preserved-then-source-j-eq-CALLEE
+localize-loop-i-preserved-then-source-j-eq-CALLEE t c = let v = c.view.ensures in (let a = c.args in record { on = λ q K₀ g₀. let g = c.loop-i.invariant.0.on q K₀ g₀ in let l = c.loop-i in let k = going_run c.requires.ground.source c.requires.part a.source.offset a.room _ (expressions c.requires.part g.read) _ _ K₀ _ l.derived.log.now l.derived.logtags.now l.derived.starts.now l.derived.maps.now l.derived.buckets.now l.exprmap (going l.e) g c.copy_mapped_run-r.ensures (ap going c.advance-e.ensures) in going_at (c.in_ok-e-2.ensures.places_after refl ∙ sym k.read.places_are) (going_next c.requires.part K₀ k c.if-i-end.true c.span_undefined-u.ensures (callee_runs c.requires.part K₀ k c.if-i-end.true c.if-source-j-eq-CALLEE.true refl c.in_ok-e-2.ensures.import_function_ensures.does refl c.span_undefined-u.result (rw (v.0, v.1, v.2, v.3, v.5) at c.in_ok-e-3.ensures)) refl) }, arrays_then c.loop-i.invariant.1 c.in_ok-e-2.ensures.import_function_ensures.same)
+
+pub localize-loop-i-preserved-else-source-j-eq-CALLEE : goal.localize-loop-i-preserved-else-source-j-eq-CALLEE
+localize-loop-i-preserved-else-source-j-eq-CALLEE t c = (let a = c.args in record { on = λ q K₀ g₀. let g = c.loop-i.invariant.0.on q K₀ g₀ in let l = c.loop-i in let k = going_run c.requires.ground.source c.requires.part a.source.offset a.room _ (expressions c.requires.part g.read) _ _ K₀ _ l.derived.log.now l.derived.logtags.now l.derived.starts.now l.derived.maps.now l.derived.buckets.now l.exprmap (going l.e) g c.copy_mapped_run-r.ensures (ap going c.advance-e.ensures) in going_at refl (going_next c.requires.part K₀ k c.if-i-end.true c.span_undefined-u.ensures (other_runs c.requires.part K₀ k c.if-i-end.true c.if-source-j-eq-CALLEE.false c.span_undefined-u.result (runs_from q c.in_ok-e-4.ensures.does)) refl) }, arrays_then c.loop-i.invariant.1 c.in_ok-e-4.ensures.same)
 
 pub localize-loop-i-smaller : goal.localize-loop-i-smaller
 localize-loop-i-smaller t c = let h = c.loop-i-test.true in let z = c.copy_mapped_run-r.ensures.reach in let y = c.if-i-end.false in fewer_run _ _ _ _ h z y
 
 pub localize-loop-i-preserved : goal.localize-loop-i-preserved
-localize-loop-i-preserved t c = let a = c.args in record { on = λ q K₀ g₀. let g = c.loop-i.invariant.on q K₀ g₀ in let l = c.loop-i in let k = going_run c.requires.ground.source c.requires.part a.offset a.room _ (expressions c.requires.part g.read) _ _ K₀ _ l.log l.logtags l.starts l.maps l.buckets l.exprmap l.e g c.copy_mapped_run-r.ensures c.advance-e.ensures in k }
+localize-loop-i-preserved t c = (let a = c.args in record { on = λ q K₀ g₀. let g = c.loop-i.invariant.0.on q K₀ g₀ in let l = c.loop-i in let k = going_run c.requires.ground.source c.requires.part a.source.offset a.room _ (expressions c.requires.part g.read) _ _ K₀ _ l.derived.log.now l.derived.logtags.now l.derived.starts.now l.derived.maps.now l.derived.buckets.now l.exprmap (going l.e) g c.copy_mapped_run-r.ensures (ap going c.advance-e.ensures) in k }, c.loop-i.invariant.1)
 
-pub localize-keep_names-kept-requires : goal.localize-keep_names-kept-requires
-localize-keep_names-kept-requires t c = let a = c.args in let g = c.loop-i.invariant.on refl c.requires.valid_arrays (going_start c.requires.part c.index_parts-at.ensures c.requires.valid_arrays a.room c.no_expressions.ensures c.declare-e.ensures c.if-e.false) in record { at_bound = keep_in c.requires.part c.requires.valid_arrays g c.loop-i-test.false; k_bound = keep_long c.requires.part c.requires.valid_arrays g c.loop-i-test.false; by_index = keep_exprs c.requires.part c.requires.valid_arrays g c.loop-i-test.false; by_index_2 = keep_low c.requires.part c.requires.valid_arrays g c.loop-i-test.false; stacks = g.turn.way.under.stacks_are }
+pub localize-keep_names-requires : goal.localize-keep_names-requires
+localize-keep_names-requires t c = let a = c.args in let g = c.loop-i.invariant.0.on refl c.requires.valid_arrays (going_start c.requires.part c.index_parts-at.ensures c.requires.valid_arrays a.room (ap going c.no_expressions.ensures) c.in_ok-e.ensures.does refl) in record { at_bound = keep_in c.requires.part c.requires.valid_arrays g c.loop-i-test.false; k_bound = (let z = keep_long c.requires.part c.requires.valid_arrays g c.loop-i-test.false in (z.0, z.1)); by_index = keep_exprs c.requires.part c.requires.valid_arrays g c.loop-i-test.false; by_index_2 = keep_low c.requires.part c.requires.valid_arrays g c.loop-i-test.false; stacks = g.turn.way.under.stacks_are }
 
-pub localize-returns-then-kept : goal.localize-returns-then-kept
-localize-returns-then-kept t c = let a = c.args in let g = c.loop-i.invariant.on refl c.requires.valid_arrays (going_start c.requires.part c.index_parts-at.ensures c.requires.valid_arrays a.room c.no_expressions.ensures c.declare-e.ensures c.if-e.false) in names_full c.requires.part c.requires.valid_arrays g c.loop-i-test.false c.keep_names-kept.ensures c.if-kept.true
+pub localize-returns-in_err-kept : goal.localize-returns-in_err-kept
+localize-returns-in_err-kept t c = let p = err_from_is_err_and c.from_residual-in_err-kept.result c.from_residual-in_err-kept.ensures.1 in rw (p.1, p.2) (record { does = let a = c.args in let g = c.loop-i.invariant.0.on refl c.requires.valid_arrays (going_start c.requires.part c.index_parts-at.ensures c.requires.valid_arrays a.room (ap going c.no_expressions.ensures) c.in_ok-e.ensures.does refl) in names_full c.requires.part c.requires.valid_arrays g c.loop-i-test.false c.in_err-kept.ensures refl; same = arrays_then c.in_ok-e.ensures.same c.loop-i.invariant.1 })
 
 pub localize-import_names-requires : goal.localize-import_names-requires
-localize-import_names-requires t c = let a = c.args in let g = c.loop-i.invariant.on refl c.requires.valid_arrays (going_start c.requires.part c.index_parts-at.ensures c.requires.valid_arrays a.room c.no_expressions.ensures c.declare-e.ensures c.if-e.false) in record { ground = c.requires.ground; b_le_bodytop = names_in_lem c.requires.part c.requires.valid_arrays g c.loop-i-test.false c.keep_names-kept.ensures c.if-kept.false; by_index = names_words c.requires.part c.requires.valid_arrays g c.loop-i-test.false c.keep_names-kept.ensures c.if-kept.false; stacks = c.keep_names-kept.ensures.stacks_are c.if-kept.false; valid_arrays = names_good c.requires.part c.requires.valid_arrays g c.loop-i-test.false c.keep_names-kept.ensures c.if-kept.false }
+localize-import_names-requires t c = let a = c.args in let g = c.loop-i.invariant.0.on refl c.requires.valid_arrays (going_start c.requires.part c.index_parts-at.ensures c.requires.valid_arrays a.room (ap going c.no_expressions.ensures) c.in_ok-e.ensures.does refl) in record { ground = c.requires.ground; b_le_bodytop = (names_in_lem c.requires.part c.requires.valid_arrays g c.loop-i-test.false c.in_ok-kept.ensures refl).0; by_index = names_words c.requires.part c.requires.valid_arrays g c.loop-i-test.false c.in_ok-kept.ensures refl; stacks = c.in_ok-kept.ensures.stacks_are refl; valid_arrays = names_good c.requires.part c.requires.valid_arrays g c.loop-i-test.false c.in_ok-kept.ensures refl }
 
 pub localize-returns : goal.localize-returns
-localize-returns t c = let a = c.args in let g = c.loop-i.invariant.on refl c.requires.valid_arrays (going_start c.requires.part c.index_parts-at.ensures c.requires.valid_arrays a.room c.no_expressions.ensures c.declare-e.ensures c.if-e.false) in names_whole c.requires.part c.requires.valid_arrays g c.loop-i-test.false c.keep_names-kept.ensures c.if-kept.false c.import_names.ensures
+localize-returns t c = record { does = let a = c.args in let g = c.loop-i.invariant.0.on refl c.requires.valid_arrays (going_start c.requires.part c.index_parts-at.ensures c.requires.valid_arrays a.room (ap going c.no_expressions.ensures) c.in_ok-e.ensures.does refl) in names_whole c.requires.part c.requires.valid_arrays g c.loop-i-test.false c.in_ok-kept.ensures refl c.import_names.ensures.does; same = arrays_then c.in_ok-e.ensures.same (arrays_then c.loop-i.invariant.1 c.import_names.ensures.same) }

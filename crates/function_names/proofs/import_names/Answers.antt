@@ -3,58 +3,61 @@ use native.Mathlib.Omega.{arith}
 use Prim.Native.Nat.{◌+◌, ◌-◌}
 use mathlib.Core.Path.{refl}
 use lib.ListN.{get_or}
-use Rattle.derive_state.specs.Held.{row}
+use Rattle.derive_state.specs.Held.{row, SameArrays}
 use Rattle.derive_state.specs.Refers.{tab_of}
 use Rattle.derive_imports.proofs.Sources.{small_number}
 use Rattle.function_names.proofs.Naming.{Naming, name_first, name_in_lem, name_number, name_full, name_next, name_skip, name_done}
-use Rattle.function_names.proofs.import_names.Goals.{Joined-w-ne0, then-w-ne0+else-e, else-w-ne0}
+use Rattle.function_names.proofs.import_names.Goals.{Joined-w-ne0, then-w-ne0+in_ok-e, else-w-ne0}
+use Rattle.derive_state.specs.Sizes.{going}
+use Rattle.std.proofs.lemmas.Result.{err_from_is_err_and}
+use Rattle.derive_state.proofs.State.{arrays_same, arrays_then}
 use Rattle.function_names.proofs.import_names.Goals as goal
 
 pub loop-i-init : goal.loop-i-init
-loop-i-init c = let a = c.args in name_first a.image.words.now a.image.n a.offset a.b a.log.now a.logtags.now a.starts.now a.maps.now a.buckets.now a.stacks.now a.ends c.requires.valid_arrays c.requires.b_le_bodytop.0 c.requires.by_index c.requires.b_le_bodytop.1 c.requires.stacks
+loop-i-init c = (let a = c.args in name_first a.source.image.words.now a.source.image.n a.source.offset a.b a.derived.now.log.now a.derived.now.logtags.now a.derived.now.starts.now a.derived.now.maps.now a.derived.now.buckets.now a.stacks.now (going a.ends) c.requires.valid_arrays c.requires.b_le_bodytop c.requires.by_index refl c.requires.stacks, arrays_same _)
 
 pub overflow_add-j : goal.overflow_add-j
-overflow_add-j c = let a = c.args in let l = c.loop-i in let z = name_in_lem a.image.words.now a.image.n a.offset a.b a.log.now a.logtags.now a.starts.now a.maps.now a.buckets.now a.stacks.now a.ends c.requires.valid_arrays l.log l.logtags l.starts l.maps l.buckets l.stacks l.e l.i l.invariant c.loop-i-test.true in omega arith
+overflow_add-j c = let a = c.args in let l = c.loop-i in let z = name_in_lem a.source.image.words.now a.source.image.n a.source.offset a.b a.derived.now.log.now a.derived.now.logtags.now a.derived.now.starts.now a.derived.now.maps.now a.derived.now.buckets.now a.stacks.now (going a.ends) c.requires.valid_arrays l.derived.log.now l.derived.logtags.now l.derived.starts.now l.derived.maps.now l.derived.buckets.now l.stacks (going l.e) l.i l.invariant.0 c.loop-i-test.true in omega arith
 
 pub offset_bounds-stacks-j : goal.offset_bounds-stacks-j
-offset_bounds-stacks-j c = let a = c.args in let l = c.loop-i in let z = name_in_lem a.image.words.now a.image.n a.offset a.b a.log.now a.logtags.now a.starts.now a.maps.now a.buckets.now a.stacks.now a.ends c.requires.valid_arrays l.log l.logtags l.starts l.maps l.buckets l.stacks l.e l.i l.invariant c.loop-i-test.true in omega arith
+offset_bounds-stacks-j c = let a = c.args in let l = c.loop-i in let z = name_in_lem a.source.image.words.now a.source.image.n a.source.offset a.b a.derived.now.log.now a.derived.now.logtags.now a.derived.now.starts.now a.derived.now.maps.now a.derived.now.buckets.now a.stacks.now (going a.ends) c.requires.valid_arrays l.derived.log.now l.derived.logtags.now l.derived.starts.now l.derived.maps.now l.derived.buckets.now l.stacks (going l.e) l.i l.invariant.0 c.loop-i-test.true in omega arith
 
 pub bounds-stacks-j : goal.bounds-stacks-j
-bounds-stacks-j c = let a = c.args in let l = c.loop-i in let z = name_in_lem a.image.words.now a.image.n a.offset a.b a.log.now a.logtags.now a.starts.now a.maps.now a.buckets.now a.stacks.now a.ends c.requires.valid_arrays l.log l.logtags l.starts l.maps l.buckets l.stacks l.e l.i l.invariant c.loop-i-test.true in omega arith
+bounds-stacks-j c = let a = c.args in let l = c.loop-i in let z = name_in_lem a.source.image.words.now a.source.image.n a.source.offset a.b a.derived.now.log.now a.derived.now.logtags.now a.derived.now.starts.now a.derived.now.maps.now a.derived.now.buckets.now a.stacks.now (going a.ends) c.requires.valid_arrays l.derived.log.now l.derived.logtags.now l.derived.starts.now l.derived.maps.now l.derived.buckets.now l.stacks (going l.e) l.i l.invariant.0 c.loop-i-test.true in omega arith
 
 pub overflow_sub-w : goal.overflow_sub-w
 overflow_sub-w c = let h = c.if-w-ne0.true in omega arith
 
-pub import-e-requires : goal.import-e-requires
-import-e-requires c = let a = c.args in let l = c.loop-i in let h = name_number a.image.words.now a.image.n a.offset a.b a.log.now a.logtags.now a.starts.now a.maps.now a.buckets.now a.stacks.now a.ends c.requires.valid_arrays l.log l.logtags l.starts l.maps l.buckets l.stacks l.e l.i l.invariant c.loop-i-test.true (get_or (row l.stacks 3) (l.i + 1) 0) ((get_or (row l.stacks 3) (l.i + 1) 0) - 1) refl c.if-w-ne0.true refl in record { source = c.requires.ground.source; number_bound = (omega arith, h, l.invariant.going); valid_arrays = l.invariant.kept }
+pub import-requires : goal.import-requires
+import-requires c = let a = c.args in let l = c.loop-i in let h = name_number a.source.image.words.now a.source.image.n a.source.offset a.b a.derived.now.log.now a.derived.now.logtags.now a.derived.now.starts.now a.derived.now.maps.now a.derived.now.buckets.now a.stacks.now (going a.ends) c.requires.valid_arrays l.derived.log.now l.derived.logtags.now l.derived.starts.now l.derived.maps.now l.derived.buckets.now l.stacks (going l.e) l.i l.invariant.0 c.loop-i-test.true (get_or (row l.stacks 3) (l.i + 1) 0) ((get_or (row l.stacks 3) (l.i + 1) 0) - 1) refl c.if-w-ne0.true refl in record { source = c.requires.ground.source; number_bound = (omega arith, h); valid_arrays = l.invariant.0.kept }
 
-pub returns-then-e : goal.returns-then-e
+pub returns-in_err-e : goal.returns-in_err-e
 unfolding tab_of
-returns-then-e c = let a = c.args in let l = c.loop-i in let h = name_number a.image.words.now a.image.n a.offset a.b a.log.now a.logtags.now a.starts.now a.maps.now a.buckets.now a.stacks.now a.ends c.requires.valid_arrays l.log l.logtags l.starts l.maps l.buckets l.stacks l.e l.i l.invariant c.loop-i-test.true (get_or (row l.stacks 3) (l.i + 1) 0) ((get_or (row l.stacks 3) (l.i + 1) 0) - 1) refl c.if-w-ne0.true refl in let u = c.import-e in name_full a.image.words.now a.image.n a.offset a.b a.log.now a.logtags.now a.starts.now a.maps.now a.buckets.now a.stacks.now a.ends c.requires.valid_arrays l.log l.logtags l.starts l.maps l.buckets l.stacks l.e l.i l.invariant c.loop-i-test.true (get_or (row l.stacks 3) (l.i + 1) 0) ((get_or (row l.stacks 3) (l.i + 1) 0) - 1) refl c.if-w-ne0.true refl u.result c.import-e.new.log c.import-e.new.logtags c.import-e.new.starts c.import-e.new.maps c.import-e.new.buckets c.import-e.ensures c.if-e.true
+returns-in_err-e c = let p = err_from_is_err_and c.from_residual.result c.from_residual.ensures.1 in rw (p.1, p.2) (record { does = let a = c.args in let l = c.loop-i in let h = name_number a.source.image.words.now a.source.image.n a.source.offset a.b a.derived.now.log.now a.derived.now.logtags.now a.derived.now.starts.now a.derived.now.maps.now a.derived.now.buckets.now a.stacks.now (going a.ends) c.requires.valid_arrays l.derived.log.now l.derived.logtags.now l.derived.starts.now l.derived.maps.now l.derived.buckets.now l.stacks (going l.e) l.i l.invariant.0 c.loop-i-test.true (get_or (row l.stacks 3) (l.i + 1) 0) ((get_or (row l.stacks 3) (l.i + 1) 0) - 1) refl c.if-w-ne0.true refl in name_full a.source.image.words.now a.source.image.n a.source.offset a.b a.derived.now.log.now a.derived.now.logtags.now a.derived.now.starts.now a.derived.now.maps.now a.derived.now.buckets.now a.stacks.now (going a.ends) c.requires.valid_arrays l.derived.log.now l.derived.logtags.now l.derived.starts.now l.derived.maps.now l.derived.buckets.now l.stacks (going l.e) l.i l.invariant.0 c.loop-i-test.true (get_or (row l.stacks 3) (l.i + 1) 0) ((get_or (row l.stacks 3) (l.i + 1) 0) - 1) refl c.if-w-ne0.true refl _ _ _ _ _ _ c.in_err-e.ensures.does refl; same = arrays_then c.loop-i.invariant.1 c.in_err-e.ensures.same })
 
-pub bounds-maps-w : goal.bounds-maps-w
-bounds-maps-w c = let a = c.args in let l = c.loop-i in let h = name_number a.image.words.now a.image.n a.offset a.b a.log.now a.logtags.now a.starts.now a.maps.now a.buckets.now a.stacks.now a.ends c.requires.valid_arrays l.log l.logtags l.starts l.maps l.buckets l.stacks l.e l.i l.invariant c.loop-i-test.true (get_or (row l.stacks 3) (l.i + 1) 0) ((get_or (row l.stacks 3) (l.i + 1) 0) - 1) refl c.if-w-ne0.true refl in let s = small_number a.image.words.now a.image.tags.now a.image.n c.requires.ground.source 0 ((get_or (row l.stacks 3) (l.i + 1) 0) - 1) (omega arith) h in omega arith
+pub bounds-derived-w : goal.bounds-derived-w
+bounds-derived-w c = let a = c.args in let l = c.loop-i in let h = name_number a.source.image.words.now a.source.image.n a.source.offset a.b a.derived.now.log.now a.derived.now.logtags.now a.derived.now.starts.now a.derived.now.maps.now a.derived.now.buckets.now a.stacks.now (going a.ends) c.requires.valid_arrays l.derived.log.now l.derived.logtags.now l.derived.starts.now l.derived.maps.now l.derived.buckets.now l.stacks (going l.e) l.i l.invariant.0 c.loop-i-test.true (get_or (row l.stacks 3) (l.i + 1) 0) ((get_or (row l.stacks 3) (l.i + 1) 0) - 1) refl c.if-w-ne0.true refl in let s = small_number a.source.image.words.now a.source.image.tags.now a.source.image.n c.requires.ground.source 0 ((get_or (row l.stacks 3) (l.i + 1) 0) - 1) (omega arith) h in omega arith
 
 pub offset_bounds-stacks-j-then-w-ne0 : goal.offset_bounds-stacks-j-then-w-ne0
-offset_bounds-stacks-j-then-w-ne0 c = let a = c.args in let l = c.loop-i in let z = name_in_lem a.image.words.now a.image.n a.offset a.b a.log.now a.logtags.now a.starts.now a.maps.now a.buckets.now a.stacks.now a.ends c.requires.valid_arrays l.log l.logtags l.starts l.maps l.buckets l.stacks l.e l.i l.invariant c.loop-i-test.true in omega arith
+offset_bounds-stacks-j-then-w-ne0 c = let a = c.args in let l = c.loop-i in let z = name_in_lem a.source.image.words.now a.source.image.n a.source.offset a.b a.derived.now.log.now a.derived.now.logtags.now a.derived.now.starts.now a.derived.now.maps.now a.derived.now.buckets.now a.stacks.now (going a.ends) c.requires.valid_arrays l.derived.log.now l.derived.logtags.now l.derived.starts.now l.derived.maps.now l.derived.buckets.now l.stacks (going l.e) l.i l.invariant.0 c.loop-i-test.true in omega arith
 
-pub bounds-stacks-j-else-e : goal.bounds-stacks-j-else-e
-bounds-stacks-j-else-e c = let a = c.args in let l = c.loop-i in let z = name_in_lem a.image.words.now a.image.n a.offset a.b a.log.now a.logtags.now a.starts.now a.maps.now a.buckets.now a.stacks.now a.ends c.requires.valid_arrays l.log l.logtags l.starts l.maps l.buckets l.stacks l.e l.i l.invariant c.loop-i-test.true in omega arith
+pub bounds-stacks-j-in_ok-e : goal.bounds-stacks-j-in_ok-e
+bounds-stacks-j-in_ok-e c = let a = c.args in let l = c.loop-i in let z = name_in_lem a.source.image.words.now a.source.image.n a.source.offset a.b a.derived.now.log.now a.derived.now.logtags.now a.derived.now.starts.now a.derived.now.maps.now a.derived.now.buckets.now a.stacks.now (going a.ends) c.requires.valid_arrays l.derived.log.now l.derived.logtags.now l.derived.starts.now l.derived.maps.now l.derived.buckets.now l.stacks (going l.e) l.i l.invariant.0 c.loop-i-test.true in omega arith
 
 -- a turn, with a name or with none
-turn : (c : Joined-w-ne0) → let a = c.args in let x = c.if-w-ne0 in Naming a.image.words.now a.image.n a.offset a.b a.log.now a.logtags.now a.starts.now a.maps.now a.buckets.now a.stacks.now a.ends x.log x.logtags x.starts x.maps x.buckets x.stacks x.e (c.loop-i.i + 2)
+turn : (c : Joined-w-ne0) → let a = c.args in let x = c.if-w-ne0 in (Naming a.source.image.words.now a.source.image.n a.source.offset a.b a.derived.now.log.now a.derived.now.logtags.now a.derived.now.starts.now a.derived.now.maps.now a.derived.now.buckets.now a.stacks.now (going a.ends) x.derived.log.now x.derived.logtags.now x.derived.starts.now x.derived.maps.now x.derived.buckets.now x.stacks (going x.e) (c.loop-i.i + 2)) × SameArrays a.derived.now x.derived
 unfolding tab_of
 turn c =
     elim c.if-w-ne0.branch [
-      | then-w-ne0+else-e w ↦ rw (w.log-is, w.logtags-is, w.starts-is, w.maps-is, w.buckets-is, w.stacks-is, w.e-is) (let a = c.args in let l = c.loop-i in let h = name_number a.image.words.now a.image.n a.offset a.b a.log.now a.logtags.now a.starts.now a.maps.now a.buckets.now a.stacks.now a.ends c.requires.valid_arrays l.log l.logtags l.starts l.maps l.buckets l.stacks l.e l.i l.invariant c.loop-i-test.true (get_or (row l.stacks 3) (l.i + 1) 0) ((get_or (row l.stacks 3) (l.i + 1) 0) - 1) refl w.if-w-ne0.true refl in let u = w.import-e in name_next a.image.words.now a.image.n a.offset a.b a.log.now a.logtags.now a.starts.now a.maps.now a.buckets.now a.stacks.now a.ends c.requires.valid_arrays l.log l.logtags l.starts l.maps l.buckets l.stacks l.e l.i l.invariant c.loop-i-test.true (get_or (row l.stacks 3) (l.i + 1) 0) ((get_or (row l.stacks 3) (l.i + 1) 0) - 1) refl w.if-w-ne0.true refl u.result w.import-e.new.log w.import-e.new.logtags w.import-e.new.starts w.import-e.new.maps w.import-e.new.buckets w.import-e.ensures w.if-e.false _ refl _ refl)
-      | else-w-ne0 w ↦ rw (w.log-is, w.logtags-is, w.starts-is, w.maps-is, w.buckets-is, w.stacks-is, w.e-is) (let a = c.args in let l = c.loop-i in name_skip a.image.words.now a.image.n a.offset a.b a.log.now a.logtags.now a.starts.now a.maps.now a.buckets.now a.stacks.now a.ends c.requires.valid_arrays l.log l.logtags l.starts l.maps l.buckets l.stacks l.e l.i l.invariant c.loop-i-test.true (get_or (row l.stacks 3) (l.i + 1) 0) refl w.if-w-ne0.false)
+      | then-w-ne0+in_ok-e w ↦ rw (w.derived-is, w.stacks-is, w.e-is) ((let a = c.args in let l = c.loop-i in let h = name_number a.source.image.words.now a.source.image.n a.source.offset a.b a.derived.now.log.now a.derived.now.logtags.now a.derived.now.starts.now a.derived.now.maps.now a.derived.now.buckets.now a.stacks.now (going a.ends) c.requires.valid_arrays l.derived.log.now l.derived.logtags.now l.derived.starts.now l.derived.maps.now l.derived.buckets.now l.stacks (going l.e) l.i l.invariant.0 c.loop-i-test.true (get_or (row l.stacks 3) (l.i + 1) 0) ((get_or (row l.stacks 3) (l.i + 1) 0) - 1) refl w.if-w-ne0.true refl in name_next a.source.image.words.now a.source.image.n a.source.offset a.b a.derived.now.log.now a.derived.now.logtags.now a.derived.now.starts.now a.derived.now.maps.now a.derived.now.buckets.now a.stacks.now (going a.ends) c.requires.valid_arrays l.derived.log.now l.derived.logtags.now l.derived.starts.now l.derived.maps.now l.derived.buckets.now l.stacks (going l.e) l.i l.invariant.0 c.loop-i-test.true (get_or (row l.stacks 3) (l.i + 1) 0) ((get_or (row l.stacks 3) (l.i + 1) 0) - 1) refl w.if-w-ne0.true refl _ _ _ _ _ _ w.in_ok-e.ensures.does refl _ refl _ refl), arrays_then c.loop-i.invariant.1 w.in_ok-e.ensures.same)
+      | else-w-ne0 w ↦ rw (w.derived-is, w.stacks-is, w.e-is) ((let a = c.args in let l = c.loop-i in name_skip a.source.image.words.now a.source.image.n a.source.offset a.b a.derived.now.log.now a.derived.now.logtags.now a.derived.now.starts.now a.derived.now.maps.now a.derived.now.buckets.now a.stacks.now (going a.ends) c.requires.valid_arrays l.derived.log.now l.derived.logtags.now l.derived.starts.now l.derived.maps.now l.derived.buckets.now l.stacks (going l.e) l.i l.invariant.0 c.loop-i-test.true (get_or (row l.stacks 3) (l.i + 1) 0) refl w.if-w-ne0.false), c.loop-i.invariant.1)
     ]
 
 pub loop-i-preserved : goal.loop-i-preserved
 loop-i-preserved c = turn c.before
 
 pub returns-after-w-ne0 : goal.returns-after-w-ne0
-returns-after-w-ne0 c = let a = c.args in let x = c.if-w-ne0 in name_done a.image.words.now a.image.n a.offset a.b a.log.now a.logtags.now a.starts.now a.maps.now a.buckets.now a.stacks.now a.ends c.requires.valid_arrays x.log x.logtags x.starts x.maps x.buckets x.stacks x.e (c.loop-i.i + 2) (turn c.before) (omega arith)
+returns-after-w-ne0 c = record { does = let a = c.args in let x = c.if-w-ne0 in name_done a.source.image.words.now a.source.image.n a.source.offset a.b a.derived.now.log.now a.derived.now.logtags.now a.derived.now.starts.now a.derived.now.maps.now a.derived.now.buckets.now a.stacks.now (going a.ends) c.requires.valid_arrays x.derived.log.now x.derived.logtags.now x.derived.starts.now x.derived.maps.now x.derived.buckets.now x.stacks (going x.e) (c.loop-i.i + 2) (turn c.before).0 (omega arith); same = (turn c.before).1 }
 
 pub returns : goal.returns
-returns c = let a = c.args in let l = c.loop-i in name_done a.image.words.now a.image.n a.offset a.b a.log.now a.logtags.now a.starts.now a.maps.now a.buckets.now a.stacks.now a.ends c.requires.valid_arrays l.log l.logtags l.starts l.maps l.buckets l.stacks l.e l.i l.invariant c.loop-i-test.false
+returns c = record { does = let a = c.args in let l = c.loop-i in name_done a.source.image.words.now a.source.image.n a.source.offset a.b a.derived.now.log.now a.derived.now.logtags.now a.derived.now.starts.now a.derived.now.maps.now a.derived.now.buckets.now a.stacks.now (going a.ends) c.requires.valid_arrays l.derived.log.now l.derived.logtags.now l.derived.starts.now l.derived.maps.now l.derived.buckets.now l.stacks (going l.e) l.i l.invariant.0 c.loop-i-test.false; same = c.loop-i.invariant.1 }

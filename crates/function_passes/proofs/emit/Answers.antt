@@ -5,22 +5,24 @@ use Rattle.function_words.specs.Runs.{needs as needsE, glances}
 use Rattle.function_words.proofs.Running.{made_small}
 use Rattle.function_passes.proofs.Drawn.{drawn_first}
 use Rattle.function_passes.proofs.Ranges.{needs_grow, emit_stop, emit_put, emit_over, emit_done}
+use Rattle.std.proofs.lemmas.Result.{err_from_is_err_and}
+use mathlib.Core.Path.{refl}
 use Rattle.function_passes.proofs.emit.Goals as goal
 
-pub returns-then-got : goal.returns-then-got
-returns-then-got c = let a = c.args in emit_stop a.offset (mod_of a.image.words.now a.image.n) (needsE a.offset a.image.words.now a.image.tags.now a.image.n a.places.now a.k) (glances a.offset a.image.words.now a.image.tags.now a.image.n a.places.now a.k) a.a a.b c.requires.valid_arrays c.first_pass-got.ensures c.if-got.true (needs_grow a.offset a.image.words.now a.image.tags.now a.image.n a.places.now a.k)
+pub returns-in_err-got : goal.returns-in_err-got
+returns-in_err-got c = let p = err_from_is_err_and c.from_residual.result c.from_residual.ensures.1 in rw (p.1, p.2) (record { does = let a = c.args in emit_stop a.source.offset (mod_of a.source.image.words.now a.source.image.n) (needsE a.source.offset a.source.image.words.now a.source.image.tags.now a.source.image.n a.expressions.places.now a.expressions.count) (glances a.source.offset a.source.image.words.now a.source.image.tags.now a.source.image.n a.expressions.places.now a.expressions.count) a.a a.b c.requires.valid_arrays c.in_err-got.ensures.does refl (needs_grow a.source.offset a.source.image.words.now a.source.image.tags.now a.source.image.n a.expressions.places.now a.expressions.count); same = c.in_err-got.ensures.same })
 
 pub overflow_cast-from : goal.overflow_cast-from
-overflow_cast-from c = let z = made_small (c.first_pass-got.ensures.under c.if-got.false) in omega arith
+overflow_cast-from c = let z = made_small (c.in_ok-got.ensures.does.under refl) in omega arith
 
-pub push-put-requires : goal.push-put-requires
-push-put-requires c = (c.first_pass-got.ensures.under c.if-got.false).stacks_are
+pub push-requires : goal.push-requires
+push-requires c = (c.in_ok-got.ensures.does.under refl).stacks_are
 
-pub returns-then-put : goal.returns-then-put
-returns-then-put c = let a = c.args in emit_over a.offset (mod_of a.image.words.now a.image.n) (needsE a.offset a.image.words.now a.image.tags.now a.image.n a.places.now a.k) (glances a.offset a.image.words.now a.image.tags.now a.image.n a.places.now a.k) a.a a.b c.requires.valid_arrays c.first_pass-got.ensures c.if-got.false c.push-put.ensures c.if-put.true (needs_grow a.offset a.image.words.now a.image.tags.now a.image.n a.places.now a.k)
+pub returns-in_err-put : goal.returns-in_err-put
+returns-in_err-put c = let p = err_from_is_err_and c.from_residual-in_err-put.result c.from_residual-in_err-put.ensures.1 in rw (p.1, p.2) (record { does = let a = c.args in emit_over a.source.offset (mod_of a.source.image.words.now a.source.image.n) (needsE a.source.offset a.source.image.words.now a.source.image.tags.now a.source.image.n a.expressions.places.now a.expressions.count) (glances a.source.offset a.source.image.words.now a.source.image.tags.now a.source.image.n a.expressions.places.now a.expressions.count) a.a a.b c.requires.valid_arrays c.in_ok-got.ensures.does refl c.in_err-put.ensures refl (needs_grow a.source.offset a.source.image.words.now a.source.image.tags.now a.source.image.n a.expressions.places.now a.expressions.count); same = c.in_ok-got.ensures.same })
 
 pub second_pass-requires : goal.second_pass-requires
-second_pass-requires c = let a = c.args in let z = c.if-put.false in let R = emit_put a.offset (mod_of a.image.words.now a.image.n) (needsE a.offset a.image.words.now a.image.tags.now a.image.n a.places.now a.k) (glances a.offset a.image.words.now a.image.tags.now a.image.n a.places.now a.k) a.a a.b c.requires.valid_arrays c.first_pass-got.ensures c.if-got.false c.push-put.ensures in let D = drawn_first c.requires.expressions a.image.n a.offset c.requires.valid_arrays c.requires.under c.if-got.false c.requires.b_le_k c.first_pass-got.ensures in record { ground = c.requires.ground; expressions = c.requires.expressions; b_le_k = c.requires.b_le_k; full_value = z; by_index = (_, R.kept z); under = R.under z; drawn = D }
+second_pass-requires c = let v = c.view.ensures in let a = c.args in let z = refl in let R = emit_put a.source.offset (mod_of a.source.image.words.now a.source.image.n) (needsE a.source.offset a.source.image.words.now a.source.image.tags.now a.source.image.n a.expressions.places.now a.expressions.count) (glances a.source.offset a.source.image.words.now a.source.image.tags.now a.source.image.n a.expressions.places.now a.expressions.count) a.a a.b c.requires.valid_arrays c.in_ok-got.ensures.does refl c.in_ok-put.ensures in let D = drawn_first c.requires.expressions a.source.image.n a.source.offset c.requires.valid_arrays c.requires.under refl c.requires.b_le_k c.in_ok-got.ensures.does in record { ground = c.requires.ground; expressions = c.requires.expressions; b_le_k = c.requires.b_le_k; by_index = (c.first_pass.new.derived.buckets.now, rw (v.0, v.1, v.2, v.3, v.5) (R.kept z)); under = rw v.5 (R.under z); drawn = rw v.3 D }
 
 pub returns : goal.returns
-returns c = let a = c.args in let z = c.if-put.false in let R = emit_put a.offset (mod_of a.image.words.now a.image.n) (needsE a.offset a.image.words.now a.image.tags.now a.image.n a.places.now a.k) (glances a.offset a.image.words.now a.image.tags.now a.image.n a.places.now a.k) a.a a.b c.requires.valid_arrays c.first_pass-got.ensures c.if-got.false c.push-put.ensures in emit_done a.offset (mod_of a.image.words.now a.image.n) (needsE a.offset a.image.words.now a.image.tags.now a.image.n a.places.now a.k) (glances a.offset a.image.words.now a.image.tags.now a.image.n a.places.now a.k) a.a a.b c.requires.valid_arrays c.first_pass-got.ensures c.if-got.false c.push-put.ensures z (c.second_pass.ensures.lays _ (R.kept z))
+returns c = let v = c.view.ensures in record { does = let a = c.args in let z = refl in let R = emit_put a.source.offset (mod_of a.source.image.words.now a.source.image.n) (needsE a.source.offset a.source.image.words.now a.source.image.tags.now a.source.image.n a.expressions.places.now a.expressions.count) (glances a.source.offset a.source.image.words.now a.source.image.tags.now a.source.image.n a.expressions.places.now a.expressions.count) a.a a.b c.requires.valid_arrays c.in_ok-got.ensures.does refl c.in_ok-put.ensures in emit_done a.source.offset (mod_of a.source.image.words.now a.source.image.n) (needsE a.source.offset a.source.image.words.now a.source.image.tags.now a.source.image.n a.expressions.places.now a.expressions.count) (glances a.source.offset a.source.image.words.now a.source.image.tags.now a.source.image.n a.expressions.places.now a.expressions.count) a.a a.b c.requires.valid_arrays c.in_ok-got.ensures.does refl c.in_ok-put.ensures z ((rw (v.0, v.1, v.2, v.3, v.5) at c.second_pass.ensures).lays _ (R.kept z)); same = c.in_ok-got.ensures.same }

@@ -1,7 +1,9 @@
 -- `first_pass` meets its contract: one expression of the range at a turn.
 use Rattle.function_words.specs.Runs.{glances}
 use Rattle.function_passes.proofs.Ranges.{Ranging}
+use Rattle.derive_state.specs.Sizes.{going}
+use Rattle.derive_state.specs.Held.{SameArrays}
 use Rattle.function_passes.proofs.first_pass.Given as goal
 
 abbrev pub invariant-loop-y : goal.invariant-loop-y
-invariant-loop-y l = Ranging l.image.words.now l.k (glances l.offset l.image.words.now l.image.tags.now l.image.n l.places l.k) l.a l.b l.initial.log l.initial.logtags l.initial.starts l.initial.maps l.initial.buckets l.initial.exprmap l.initial.stacks l.e1 l.initial.e l.e l.log l.logtags l.starts l.maps l.buckets l.exprmap l.stacks l.y
+invariant-loop-y l = (Ranging l.source.image.words.now l.expressions.count (glances l.source.offset l.source.image.words.now l.source.image.tags.now l.source.image.n l.expressions.places.now l.expressions.count) l.a l.b l.initial.derived.log.now l.initial.derived.logtags.now l.initial.derived.starts.now l.initial.derived.maps.now l.initial.derived.buckets.now l.initial.exprmap l.initial.stacks l.expressions.base (going l.initial.e) (going l.e) l.derived.log.now l.derived.logtags.now l.derived.starts.now l.derived.maps.now l.derived.buckets.now l.exprmap l.stacks l.y) × SameArrays l.initial.derived l.derived

@@ -8,13 +8,13 @@ use Rattle.function_runs.proofs.Quiets.{onto_done, onto_all, onto_fits, onto_nex
 use Rattle.function_runs.proofs.copy_mapped_run.Goals as goal
 
 pub is_mapped_word-requires : goal.is_mapped_word-requires
-is_mapped_word-requires c = record { w_bound = numbers_low c.args.image.words.now _ _ (onto_fits c.loop-i.invariant c.loop-i-test.true) }
+is_mapped_word-requires c = record { w_bound = numbers_low c.args.source.image.words.now _ _ (onto_fits c.loop-i.invariant c.loop-i-test.true) }
 
 pub returns-then-p-eq16384 : goal.returns-then-p-eq16384
 returns-then-p-eq16384 c = onto_done c.loop-i.invariant
 
 pub carry-requires-clause-by_index : goal.carry-requires-clause-by_index
-carry-requires-clause-by_index c = (c.args.image.words.now, onto_fits c.loop-i.invariant c.loop-i-test.true)
+carry-requires-clause-by_index c = (c.args.source.image.words.now, onto_fits c.loop-i.invariant c.loop-i-test.true)
 
 pub loop-i-preserved : goal.loop-i-preserved
 loop-i-preserved c =

@@ -1,36 +1,42 @@
-use Rattle.std.proofs.lemmas.Result.{err_from_is_err_and}
-use Rattle.derive_state.specs.Refers.{target_bytes}
-use mathlib.Core.Path.{refl}
-use Rattle.derive_finish.proofs.Refused.{not_zero}
-use Prim.Native.Nat.{ℕ}
-use lib.ListN.{length-replicate}
+-- `finish_with_entries` meets its contract: without a source, into a ring of unknown functions, full, refused, or finished, and then the session is a new one.
+use mathlib.Core.Bool.{true, false}
+use mathlib.Core.Path.{refl, ap, ◌∙◌}
+use native.Mathlib.Omega.{arith}
+use Rattle.derive_state.specs.Sizes.{going}
+use Rattle.derive_state.proofs.State.{arrays_same}
 use Rattle.derive_lookup.proofs.Bears.{bearing}
 use Rattle.function_entry.proofs.Sources as Sources
+use Rattle.session_operations.proofs.Memory.{memory_same}
+use Rattle.std.proofs.lemmas.Result.{err_from_is_err_and}
+use Prim.Native.Nat.{ℕ}
+use lib.ListN.{length-replicate}
+use Rattle.derive_session.specs.Valid.{session_of}
+use Rattle.derive_finish.proofs.Refused.{not_zero}
+use Rattle.session_operations.proofs.Finishing.{unset_valid}
 use Rattle.session_functions.proofs.Ending as Ending
-use mathlib.Core.Bool.{not}
-use mathlib.Core.Path.{ap}
 use Rattle.session_functions.proofs.finish_with_entries.Goals as goal
 
-pub returns-then-not-set : goal.returns-then-not-set
-returns-then-not-set c = let a = c.args in let L = c.requires.valid_session in let S = c.requires.stacks in let zz = Ending.end_none a.set a.image.n a.offset a.image.words.now a.image.tags.now target_bytes a.log.now a.logtags.now a.starts.now a.maps.now a.buckets.now a.special.now a.ends L a.stacks.now S a.output.now (ap not c.if-not-set.true) in record { finish_ensures = zz.0; valid_session_2 = zz.1.0; stacks_2 = zz.1.1 }
+pub returns-in_default : goal.returns-in_default
+returns-in_default c = let a = c.args in let L = rw c.in_default.is at c.requires.session in let S = c.requires.stacks in let zz = Ending.end_none _ _ _ _ _ _ _ _ _ _ _ _ _ L _ S a.output.now refl in record { does = rw c.in_default.is zz.0; valid = c.requires; same = memory_same _ }
 
 pub entries_ring-requires : goal.entries_ring-requires
-entries_ring-requires c = let a = c.args in let L = c.requires.valid_session in let S = c.requires.stacks in let g = Sources.ground a.image.n a.offset a.image.words.now a.image.tags.now target_bytes a.log.now a.logtags.now a.starts.now a.maps.now a.buckets.now a.special.now a.ends (Ending.live a.set a.image.n a.offset a.image.words.now a.image.tags.now target_bytes a.log.now a.logtags.now a.starts.now a.maps.now a.buckets.now a.special.now a.ends L a.stacks.now S a.output.now (ap not c.if-not-set.false)) in record { source = g.source; n_value = g.names; bearing = bearing L.kept }
+entries_ring-requires c = let a = c.args in let L = rw c.in-Some.is at c.requires.session in let S = c.requires.stacks in let v = c.view.ensures in let g = Sources.ground _ _ _ _ _ _ _ _ _ _ _ _ L in record { source = g.source; n_value = g.names; bearing = rw (v.0, v.1, v.2, v.5) (bearing L.kept) }
 
 pub returns-then-entries_ring : goal.returns-then-entries_ring
-returns-then-entries_ring c = let a = c.args in let L = c.requires.valid_session in let S = c.requires.stacks in let zz = Ending.end_ring a.set a.image.n a.offset a.image.words.now a.image.tags.now target_bytes a.log.now a.logtags.now a.starts.now a.maps.now a.buckets.now a.special.now a.ends L a.stacks.now S a.output.now (ap not c.if-not-set.false) _ c.entries_ring.ensures c.if-entries_ring.true in record { finish_ensures = zz.0; valid_session_2 = zz.1.0; stacks_2 = zz.1.1 }
+returns-then-entries_ring c = let a = c.args in let L = rw c.in-Some.is at c.requires.session in let S = c.requires.stacks in let v = c.view.ensures in let G = rw (v.0, v.1, v.2, v.5) at c.entries_ring.ensures in let zz = Ending.end_ring _ _ _ _ _ _ _ _ _ _ _ _ _ L _ S a.output.now refl _ G c.if-entries_ring.true in record { does = rw c.in-Some.is zz.0; valid = c.requires; same = memory_same _ }
 
-pub enter_all-e-requires : goal.enter_all-e-requires
-enter_all-e-requires c = let a = c.args in let L = c.requires.valid_session in let S = c.requires.stacks in record { valid_session = Ending.live a.set a.image.n a.offset a.image.words.now a.image.tags.now target_bytes a.log.now a.logtags.now a.starts.now a.maps.now a.buckets.now a.special.now a.ends L a.stacks.now S a.output.now (ap not c.if-not-set.false); stacks = S; ends_value = Ending.end-free a.set a.image.n a.offset a.image.words.now a.image.tags.now target_bytes a.log.now a.logtags.now a.starts.now a.maps.now a.buckets.now a.special.now a.ends L a.stacks.now S a.output.now (ap not c.if-not-set.false) _ c.entries_ring.ensures c.if-entries_ring.false }
+pub enter_all-requires : goal.enter_all-requires
+enter_all-requires c = let a = c.args in let L = rw c.in-Some.is at c.requires.session in let S = c.requires.stacks in let v = c.view.ensures in let G = rw (v.0, v.1, v.2, v.5) at c.entries_ring.ensures in record { valid_session = L; stacks = S; ends_value = Ending.end-free _ _ _ _ _ _ _ _ _ _ _ _ _ L _ S a.output.now refl _ G c.if-entries_ring.false }
 
-pub returns-then-e : goal.returns-then-e
-returns-then-e c = let a = c.args in let L = c.requires.valid_session in let S = c.requires.stacks in let zz = Ending.end_full a.set a.image.n a.offset a.image.words.now a.image.tags.now target_bytes a.log.now a.logtags.now a.starts.now a.maps.now a.buckets.now a.special.now a.ends L a.stacks.now S a.output.now (ap not c.if-not-set.false) _ c.entries_ring.ensures c.if-entries_ring.false _ _ _ _ _ _ _ c.enter_all-e.ensures c.if-e.true _ c.empty_stacks.ensures in record { finish_ensures = zz.0; valid_session_2 = zz.1.0; stacks_2 = zz.1.1 }
+pub returns-in_default-enter_all : goal.returns-in_default-enter_all
+returns-in_default-enter_all c = let a = c.args in let L = rw c.in-Some.is at c.requires.session in let S = c.requires.stacks in let v = c.view.ensures in let G = rw (v.0, v.1, v.2, v.5) at c.entries_ring.ensures in let zz = Ending.end_full _ _ _ _ _ _ _ _ _ _ _ _ _ L _ S a.output.now refl _ G c.if-entries_ring.false _ _ _ _ _ _ _ c.in_default-enter_all.ensures.does refl _ c.empty_stacks.ensures in record { does = rw c.in-Some.is zz.0; valid = record { session = rw c.in-Some.is zz.1.0; stacks = zz.1.1 }; same = record { words_same = refl; tags_same = refl; derived_same = (let T = c.enter_all.ensures.same in record { log_same = T.log_same; logtags_same = T.logtags_same; starts_same = T.starts_same; maps_same = T.maps_same; buckets_same = T.buckets_same }); special_same = refl; stacks_same = refl } }
 
-pub finish-requires : goal.finish-requires
-finish-requires c = let a = c.args in let L = c.requires.valid_session in let S = c.requires.stacks in record { held = Ending.end-held a.set a.image.n a.offset a.image.words.now a.image.tags.now target_bytes a.log.now a.logtags.now a.starts.now a.maps.now a.buckets.now a.special.now a.ends L a.stacks.now S a.output.now (ap not c.if-not-set.false) _ c.entries_ring.ensures c.if-entries_ring.false _ _ _ _ _ _ _ c.enter_all-e.ensures c.if-e.false; special_len = (L.specials.special_long, length-replicate {A = ℕ} 16384 0) }
+pub finish-ended-requires : goal.finish-ended-requires
+finish-ended-requires c = let a = c.args in let L = rw c.in-Some.is at c.requires.session in let S = c.requires.stacks in let v = c.view.ensures in let G = rw (v.0, v.1, v.2, v.5) at c.entries_ring.ensures in let w = c.view-2.ensures in record { held = rw (w.0, w.1, w.2, w.5) (Ending.end-held _ _ _ _ _ _ _ _ _ _ _ _ _ L _ S a.output.now refl _ G c.if-entries_ring.false _ _ _ _ _ _ _ c.in-Ok.ensures.does refl); special_len = (L.specials.special_long, length-replicate {A = ℕ} 16384 0) }
 
 pub returns-in_err-bytes : goal.returns-in_err-bytes
-returns-in_err-bytes c = let a = c.args in let L = c.requires.valid_session in let S = c.requires.stacks in let p = err_from_is_err_and c.from_residual.result c.from_residual.ensures.1 in let zz = Ending.end_refused a.set a.image.n a.offset a.image.words.now a.image.tags.now target_bytes a.log.now a.logtags.now a.starts.now a.maps.now a.buckets.now a.special.now a.ends L a.stacks.now S a.output.now (ap not c.if-not-set.false) _ c.entries_ring.ensures c.if-entries_ring.false _ _ _ _ _ _ _ c.enter_all-e.ensures c.if-e.false _ _ _ c.in_err-bytes.ensures (not_zero _) in rw (p.1, p.2) (record { finish_ensures = zz.0; valid_session_2 = zz.1.0; stacks_2 = zz.1.1 })
+returns-in_err-bytes c = let a = c.args in let L = rw c.in-Some.is at c.requires.session in let S = c.requires.stacks in let v = c.view.ensures in let G = rw (v.0, v.1, v.2, v.5) at c.entries_ring.ensures in let w = c.view-2.ensures in let p = err_from_is_err_and c.from_residual.result c.from_residual.ensures.1 in let zz = Ending.end_refused _ _ _ _ _ _ _ _ _ _ _ _ _ L _ S a.output.now refl _ G c.if-entries_ring.false _ _ _ _ _ _ _ c.in-Ok.ensures.does refl _ _ _ (rw (w.0, w.1, w.2, w.5) at c.in_err-bytes.ensures) (not_zero _) in rw (p.1, p.2) (record { does = rw c.in-Some.is zz.0; valid = record { session = rw c.in-Some.is zz.1.0; stacks = zz.1.1 }; same = record { words_same = refl; tags_same = refl; derived_same = (let T = c.enter_all.ensures.same in record { log_same = T.log_same; logtags_same = T.logtags_same; starts_same = T.starts_same; maps_same = T.maps_same; buckets_same = T.buckets_same }); special_same = refl; stacks_same = refl } })
 
 pub returns : goal.returns
-returns c = let a = c.args in let L = c.requires.valid_session in let S = c.requires.stacks in let zz = Ending.end_done a.set a.image.n a.offset a.image.words.now a.image.tags.now target_bytes a.log.now a.logtags.now a.starts.now a.maps.now a.buckets.now a.special.now a.ends L a.stacks.now S a.output.now (ap not c.if-not-set.false) _ c.entries_ring.ensures c.if-entries_ring.false _ _ _ _ _ _ _ c.enter_all-e.ensures c.if-e.false _ _ _ c.in_ok-bytes.ensures refl _ c.clear_maps.ensures _ refl in record { finish_ensures = zz.0; valid_session_2 = zz.1.0; stacks_2 = zz.1.1 }
+unfolding session_of
+returns c = let a = c.args in let L = rw c.in-Some.is at c.requires.session in let S = c.requires.stacks in let v = c.view.ensures in let G = rw (v.0, v.1, v.2, v.5) at c.entries_ring.ensures in let w = c.view-2.ensures in let zz = Ending.end_done _ _ _ _ _ _ _ _ _ _ _ _ _ L _ S a.output.now refl _ G c.if-entries_ring.false _ _ _ _ _ _ _ c.in-Ok.ensures.does refl _ _ _ (rw (w.0, w.1, w.2, w.5) at c.in_ok-bytes.ensures) refl _ c.clear_maps.ensures _ (ap going c.empty-session.ensures) in record { does = rw c.in-Some.is zz.0; valid = record { session = unset_valid zz.1.0; stacks = zz.1.1 }; same = record { words_same = refl; tags_same = refl; derived_same = (let T = c.enter_all.ensures.same in record { log_same = T.log_same; logtags_same = T.logtags_same; starts_same = T.starts_same; maps_same = T.maps_same; buckets_same = T.buckets_same }); special_same = refl; stacks_same = refl } }

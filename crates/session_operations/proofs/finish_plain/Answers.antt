@@ -1,12 +1,17 @@
+-- `finish_plain` meets its contract: refused, or finished, and then the session is a new one.
+use mathlib.Core.Path.{refl, ap}
 use Rattle.std.proofs.lemmas.Result.{err_from_is_err_and}
-use Rattle.derive_state.specs.Refers.{target_bytes}
-use mathlib.Core.Path.{refl}
+use Rattle.derive_state.specs.Sizes.{going}
+use Rattle.derive_state.proofs.State.{arrays_same}
+use Rattle.derive_session.specs.Valid.{session_of}
 use Rattle.derive_finish.proofs.Refused.{not_zero}
-use Rattle.session_operations.proofs.Finishing.{finish_refused, finish_done}
+use Rattle.session_operations.proofs.Memory.{stacks_low}
+use Rattle.session_operations.proofs.Finishing.{finish_refused, finish_done, unset_valid}
 use Rattle.session_operations.proofs.finish_plain.Goals as goal
 
 pub returns-in_err-bytes : goal.returns-in_err-bytes
-returns-in_err-bytes c = let a = c.args in let p = err_from_is_err_and c.from_residual.result c.from_residual.ensures.1 in let zz = finish_refused a.set a.image.n a.offset a.image.words.now a.image.tags.now target_bytes a.log.now a.logtags.now a.starts.now a.maps.now a.buckets.now a.special.now a.ends c.requires a.output.now _ _ _ c.in_err-bytes.ensures (not_zero _) in rw (p.1, p.2) (record { finish_ensures = zz.0; valid_session = zz.1 })
+returns-in_err-bytes c = let a = c.args in let v = c.view.ensures in let p = err_from_is_err_and c.from_residual.result c.from_residual.ensures.1 in let zz = finish_refused _ _ _ _ _ _ _ _ _ _ _ _ _ c.requires.session a.output.now _ _ _ (rw (v.0, v.1, v.2, v.5) at c.in_err-bytes.ensures) (not_zero _) in rw (p.1, p.2) (record { does = zz.0; valid = record { session = zz.1; stacks = c.requires.stacks }; same = record { words_same = refl; tags_same = refl; derived_same = arrays_same _; special_same = refl; stacks_same = refl } })
 
 pub returns : goal.returns
-returns c = let a = c.args in let zz = finish_done a.set a.image.n a.offset a.image.words.now a.image.tags.now target_bytes a.log.now a.logtags.now a.starts.now a.maps.now a.buckets.now a.special.now a.ends c.requires a.output.now _ _ _ c.in_ok-bytes.ensures refl _ c.clear_maps.ensures _ refl in record { finish_ensures = zz.0; valid_session = zz.1 }
+unfolding session_of
+returns c = let a = c.args in let v = c.view.ensures in let zz = finish_done _ _ _ _ _ _ _ _ _ _ _ _ _ c.requires.session a.output.now _ _ _ (rw (v.0, v.1, v.2, v.5) at c.in_ok-bytes.ensures) refl _ c.clear_maps.ensures _ (ap going c.empty-session.ensures) in record { does = zz.0; valid = record { session = unset_valid zz.1; stacks = stacks_low c.requires.stacks zz.1.lowest }; same = record { words_same = refl; tags_same = refl; derived_same = record { log_same = refl; logtags_same = refl; starts_same = refl; maps_same = refl; buckets_same = refl }; special_same = refl; stacks_same = refl } }

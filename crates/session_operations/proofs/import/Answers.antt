@@ -1,25 +1,32 @@
-use mathlib.Core.Path.{refl}
-use Rattle.derive_state.specs.Refers.{tab_of, target_bytes}
+-- `import` meets its contract: without a source, outside of the table, full, or imported.
+use mathlib.Core.Bool.{true, false}
+use mathlib.Core.Path.{refl, ap}
+use native.Mathlib.Omega.{arith}
+use Rattle.derive_state.specs.Refers.{tab_of}
+use Rattle.derive_state.specs.Sizes.{going, told}
+use Rattle.derive_state.proofs.State.{arrays_same}
 use Rattle.derive_imports.proofs.Sources.{small_number}
 use Rattle.session_operations.proofs.Importing.{below, source-held, import_unset, import_none, import_full, import_room}
-use mathlib.Core.Bool.{not}
-use mathlib.Core.Path.{ap}
+use Rattle.session_operations.proofs.Memory.{memory_same, stacks_low}
 use Rattle.session_operations.proofs.import.Goals as goal
 
-pub returns-then-not-set : goal.returns-then-not-set
-returns-then-not-set c = let a = c.args in let zz = import_unset a.image.n a.offset a.image.words.now a.image.tags.now target_bytes a.log.now a.logtags.now a.starts.now a.maps.now a.buckets.now a.special.now a.ends (tab_of a.t) a.h a.set c.requires.valid_session (ap not c.if-not-set.true) in record { operation_ensures = zz.0; valid_session_2 = zz.1 }
+pub returns-in_default : goal.returns-in_default
+returns-in_default c = let a = c.args in let L = rw c.in_default.is at c.requires.valid.session in let zz = import_unset _ _ _ _ _ _ _ _ _ _ _ _ (tab_of a.t) a.h false L refl in record { does = rw c.in_default.is zz.0; valid = c.requires.valid; same = memory_same _ }
 
 pub returns-then-count-h : goal.returns-then-count-h
-returns-then-count-h c = let a = c.args in let zz = import_none a.image.n a.offset a.image.words.now a.image.tags.now target_bytes a.log.now a.logtags.now a.starts.now a.maps.now a.buckets.now a.special.now a.ends a.set c.requires.valid_session (ap not c.if-not-set.false) a.t a.h c.requires.le_t.1 _ _ c.count.ensures.0 refl c.if-count-h.true in record { operation_ensures = zz.0; valid_session_2 = zz.1 }
+returns-then-count-h c = let a = c.args in let L = rw c.in-Some.is at c.requires.valid.session in let zz = import_none _ _ _ _ _ _ _ _ _ _ _ _ true L refl a.t a.h c.requires.le_t.1 _ _ c.count.ensures.0 refl c.if-count-h.true in record { does = rw c.in-Some.is zz.0; valid = c.requires.valid; same = memory_same _ }
 
-pub import-imported-requires : goal.import-imported-requires
-import-imported-requires c = let a = c.args in record { source = source-held a.image.n a.offset a.image.words.now a.image.tags.now target_bytes a.log.now a.logtags.now a.starts.now a.maps.now a.buckets.now a.special.now a.ends a.set c.requires.valid_session (ap not c.if-not-set.false); number_bound = (c.requires.le_t.1, (below c.count.ensures.0 refl c.if-count-h.false), c.requires.valid_session.going); valid_arrays = c.requires.valid_session.kept }
+pub import-requires-clause-source : goal.import-requires-clause-source
+import-requires-clause-source c = let L = rw c.in-Some.is at c.requires.valid.session in source-held _ _ _ _ _ _ _ _ _ _ _ _ true L refl
 
-pub returns-then-imported : goal.returns-then-imported
-returns-then-imported c = let a = c.args in let zz = import_full a.image.n a.offset a.image.words.now a.image.tags.now target_bytes a.log.now a.logtags.now a.starts.now a.maps.now a.buckets.now a.special.now a.ends a.t a.h c.requires.le_t.0 c.requires.le_t.1 _ _ _ _ _ _ a.set c.requires.valid_session (ap not c.if-not-set.false) (below c.count.ensures.0 refl c.if-count-h.false) c.import-imported.ensures c.if-imported.true in record { operation_ensures = zz.0; valid_session_2 = zz.1 }
+pub import-requires-clause-number_bound : goal.import-requires-clause-number_bound
+import-requires-clause-number_bound c = (c.requires.le_t.1, below c.count.ensures.0 refl c.if-count-h.false)
 
-pub mapped_to-v-requires : goal.mapped_to-v-requires
-mapped_to-v-requires c = let a = c.args in (c.requires.le_t.1, small_number a.image.words.now a.image.tags.now a.image.n (source-held a.image.n a.offset a.image.words.now a.image.tags.now target_bytes a.log.now a.logtags.now a.starts.now a.maps.now a.buckets.now a.special.now a.ends a.set c.requires.valid_session (ap not c.if-not-set.false)) a.t a.h c.requires.le_t.1 (below c.count.ensures.0 refl c.if-count-h.false))
+pub returns-in_default-import : goal.returns-in_default-import
+returns-in_default-import c = let a = c.args in let L = rw c.in-Some.is at c.requires.valid.session in let zz = import_full _ _ _ _ _ _ _ _ _ _ _ _ a.t a.h c.requires.le_t.0 c.requires.le_t.1 _ _ _ _ _ _ true L refl (below c.count.ensures.0 refl c.if-count-h.false) c.in_default-import.ensures.does refl in record { does = rw c.in-Some.is zz.0; valid = record { session = rw c.in-Some.is zz.1; stacks = c.requires.valid.stacks }; same = record { words_same = refl; tags_same = refl; derived_same = c.import.ensures.same; special_same = refl; stacks_same = refl } }
+
+pub mapped_to-requires : goal.mapped_to-requires
+mapped_to-requires c = let a = c.args in let L = rw c.in-Some.is at c.requires.valid.session in (c.requires.le_t.1, small_number _ _ _ (source-held _ _ _ _ _ _ _ _ _ _ _ _ true L refl) a.t a.h c.requires.le_t.1 (below c.count.ensures.0 refl c.if-count-h.false))
 
 pub returns : goal.returns
-returns c = let a = c.args in let zz = import_room a.image.n a.offset a.image.words.now a.image.tags.now target_bytes a.log.now a.logtags.now a.starts.now a.maps.now a.buckets.now a.special.now a.ends a.t a.h c.requires.le_t.0 c.requires.le_t.1 _ _ _ _ _ _ a.set c.requires.valid_session (ap not c.if-not-set.false) (below c.count.ensures.0 refl c.if-count-h.false) c.import-imported.ensures c.if-imported.false _ c.mapped_to-v.ensures in record { operation_ensures = zz.0; valid_session_2 = zz.1 }
+returns c = let a = c.args in let L = rw c.in-Some.is at c.requires.valid.session in let v = c.view.ensures in let zz = import_room _ _ _ _ _ _ _ _ _ _ _ _ a.t a.h c.requires.le_t.0 c.requires.le_t.1 _ _ _ _ _ _ true L refl (below c.count.ensures.0 refl c.if-count-h.false) c.in-Ok.ensures.does refl _ (rw v.3 at c.mapped_to.ensures) in record { does = rw c.in-Some.is zz.0; valid = record { session = rw c.in-Some.is zz.1; stacks = stacks_low c.requires.valid.stacks zz.1.lowest }; same = record { words_same = refl; tags_same = refl; derived_same = c.import.ensures.same; special_same = refl; stacks_same = refl } }

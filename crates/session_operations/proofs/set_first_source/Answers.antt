@@ -1,19 +1,25 @@
+-- `set_first_source` meets its contract: refused by intake, full, or set.
+use mathlib.Core.Bool.{false}
 use mathlib.Core.Path.{refl}
-use Rattle.derive_state.specs.Refers.{target_bytes}
 use Prim.Native.Nat.{ℕ}
 use lib.ListN.{length-replicate}
-use Rattle.std.proofs.Common.{false, rules}
+use Rattle.derive_state.specs.Sizes.{going}
+use Rattle.derive_state.proofs.State.{arrays_same}
+use Rattle.session_operations.proofs.Memory.{stacks_low}
 use Rattle.session_operations.proofs.Setting.{accepted_source, elsewhere, set_refused, set_not, set_so}
 use Rattle.session_operations.proofs.set_first_source.Goals as goal
 
-pub set_source-got-requires : goal.set_source-got-requires
-set_source-got-requires c = let a = c.args in record { source = accepted_source a.image.now c.take_in.new.words c.take_in.new.tags c.take_in.result c.take_in.ensures c.in-Ok.m (search rules); full_value = c.requires.going; valid_arrays = c.requires.kept; specials = c.requires.specials }
+pub returns-in-Err : goal.returns-in-Err
+returns-in-Err c = let a = c.args in let L = c.requires.valid.session in let u = c.requires.unset in let zz = elsewhere (length-replicate {A = ℕ} 16384 0) (length-replicate {A = ℕ} 16384 0) (set_refused a.image.now c.take_in.new.words c.take_in.new.tags c.take_in.result c.take_in.ensures false _ _ _ _ _ _ _ _ _ _ _ _ (rw u at L) a.offset c.in-Err.refusal c.in-Err.is _ refl) in record { does = rw u zz.0; valid = record { session = rw u zz.1; stacks = c.requires.valid.stacks }; same = record { words_same = refl; tags_same = refl; derived_same = arrays_same _; special_same = refl; stacks_same = refl } }
 
-pub returns-then-got : goal.returns-then-got
-returns-then-got c = let a = c.args in let long = (accepted_source a.image.now c.take_in.new.words c.take_in.new.tags c.take_in.result c.take_in.ensures c.in-Ok.m c.in-Ok.is).taped in let zz = elsewhere long.words_long long.tags_long (set_not a.image.now c.take_in.new.words c.take_in.new.tags c.take_in.result c.take_in.ensures false a.n a.offset a.words.now a.tags.now target_bytes a.log.now a.logtags.now a.starts.now a.maps.now a.buckets.now a.special.now a.ends c.requires a.o c.in-Ok.m c.in-Ok.is _ _ _ _ _ _ _ c.set_source-got.ensures c.if-got.true) in record { operation_ensures = zz.0; valid_session = zz.1 }
+pub invariant_of-source : goal.invariant_of-source
+invariant_of-source c = let T = (accepted_source c.args.image.now c.take_in.new.words c.take_in.new.tags c.take_in.result c.take_in.ensures c.in-Ok.n c.in-Ok.is).taped in record { long = record { words_long = T.words_long; tags_long = T.tags_long } }
+
+pub set_source-requires-clause-source : goal.set_source-requires-clause-source
+set_source-requires-clause-source c = let a = c.args in accepted_source a.image.now c.take_in.new.words c.take_in.new.tags c.take_in.result c.take_in.ensures c.in-Ok.n c.in-Ok.is
+
+pub returns-in_default : goal.returns-in_default
+returns-in_default c = let a = c.args in let L = c.requires.valid.session in let u = c.requires.unset in let long = (accepted_source a.image.now c.take_in.new.words c.take_in.new.tags c.take_in.result c.take_in.ensures c.in-Ok.n c.in-Ok.is).taped in let zz = elsewhere long.words_long long.tags_long (set_not a.image.now c.take_in.new.words c.take_in.new.tags c.take_in.result c.take_in.ensures false _ _ _ _ _ _ _ _ _ _ _ _ (rw u at L) a.offset c.in-Ok.n c.in-Ok.is _ _ _ _ _ _ _ c.in_default.ensures.does refl) in record { does = rw u zz.0; valid = record { session = rw u zz.1; stacks = c.requires.valid.stacks }; same = record { words_same = refl; tags_same = refl; derived_same = c.set_source.ensures.same; special_same = refl; stacks_same = refl } }
 
 pub returns : goal.returns
-returns c = let a = c.args in let zz = set_so a.image.now c.take_in.new.words c.take_in.new.tags c.take_in.result c.take_in.ensures false a.n a.offset a.words.now a.tags.now target_bytes a.log.now a.logtags.now a.starts.now a.maps.now a.buckets.now a.special.now a.ends c.requires a.o c.in-Ok.m c.in-Ok.is _ _ _ _ _ _ _ c.set_source-got.ensures c.if-got.false in record { operation_ensures = zz.0; valid_session = zz.1 }
-
-pub returns-in-Err : goal.returns-in-Err
-returns-in-Err c = let a = c.args in let zz = elsewhere (length-replicate {A = ℕ} 16384 0) (length-replicate {A = ℕ} 16384 0) (set_refused a.image.now c.take_in.new.words c.take_in.new.tags c.take_in.result c.take_in.ensures false a.n a.offset a.words.now a.tags.now target_bytes a.log.now a.logtags.now a.starts.now a.maps.now a.buckets.now a.special.now a.ends c.requires a.o c.in-Err.refusal c.in-Err.is _ refl) in record { operation_ensures = zz.0; valid_session = zz.1 }
+returns c = let a = c.args in let L = c.requires.valid.session in let zz = set_so a.image.now c.take_in.new.words c.take_in.new.tags c.take_in.result c.take_in.ensures _ _ _ _ _ _ _ _ _ _ _ _ _ L a.offset c.in-Ok.n c.in-Ok.is _ _ _ _ _ _ _ c.in-Ok-set_source.ensures.does refl in record { does = zz.0; valid = record { session = zz.1; stacks = stacks_low c.requires.valid.stacks zz.1.lowest }; same = record { words_same = refl; tags_same = refl; derived_same = c.set_source.ensures.same; special_same = refl; stacks_same = refl } }

@@ -1,39 +1,48 @@
+-- `perform` meets its contract: each operation is a step of its number.
 use mathlib.Core.Logic.{inl, inr}
-use Rattle.derive_state.specs.Refers.{target_bytes}
+use mathlib.Core.Path.{refl}
+use Rattle.derive_state.specs.Sizes.{going}
+use Rattle.derive_state.proofs.State.{arrays_same}
 use Rattle.derive_session.specs.Valid.{session_of}
-use Rattle.session_steps.proofs.Saying.{first_is, Imports, number_is, none_stepped, clear-stepped, clear-live, span_stepped, required_stepped, type_recorded, rename_recorded, constant_recorded, override_recorded, global_recorded, expression_recorded, function_recorded, new_recorded, handle_recorded, stacks_low, by_number, by_first}
-use Rattle.session_steps.proofs.perform.Goals.{in-ImportType, in-RenameType, in-ImportConst, in-ImportPipelineOverride, in-ImportGlobal, in-ImportGlobalExpression, in-ImportFunction, in-ImportFunctionIfNew}
+use Rattle.session_operations.specs.Sessions.{meant}
+use Rattle.session_operations.proofs.Memory.{memory_same}
+use Rattle.session_operations.proofs.Finishing.{unset_valid}
+use Rattle.session_steps.proofs.Saying.{first_is, number_is, none_stepped, clear-stepped, clear-live, span_stepped, required_stepped, type_recorded, rename_recorded, constant_recorded, override_recorded, global_recorded, expression_recorded, function_recorded, new_recorded, handle_recorded, by_number, by_first}
 use Rattle.session_steps.proofs.perform.Goals as goal
 
-pub returns-in_default-clause-perform_ensures : goal.returns-in_default-clause-perform_ensures
-returns-in_default-clause-perform_ensures c = let a = c.args in rw c.number.ensures (none_stepped a.step.operation a.step.a a.step.b a.step.c a.sources.now a.output.now (session_of a.set a.n a.offset a.words.now a.log.now a.logtags.now a.starts.now a.maps.now a.special.now a.ends) c.in_default.ensures.1)
+pub returns-in_default : goal.returns-in_default
+returns-in_default c = let a = c.args in rw c.refused.ensures (record { does = none_stepped a.step.operation a.step.a a.step.b a.step.c a.sources.now a.output.now (meant a.session.now) c.in_default.ensures.1; valid = c.requires; same = memory_same _ })
 
-pub returns-in-Clear-clause-perform_ensures : goal.returns-in-Clear-clause-perform_ensures
-returns-in-Clear-clause-perform_ensures c = let a = c.args in by_number a.step.a a.step.b a.step.c a.sources.now a.output.now (session_of a.set a.n a.offset a.words.now a.log.now a.logtags.now a.starts.now a.maps.now a.special.now a.ends) (number_is c.in-Ok.ensures c.in-Clear.is) (clear-stepped a.set a.n a.offset a.words.now a.log.now a.logtags.now a.starts.now a.maps.now a.special.now a.ends a.step.a a.step.b a.step.c a.sources.now a.output.now)
+pub returns-in-Clear : goal.returns-in-Clear
+unfolding session_of
+returns-in-Clear c = let a = c.args in record { does = by_number a.step.a a.step.b a.step.c a.sources.now a.output.now (meant a.session.now) (number_is c.in-Ok.ensures c.in-Clear.is) (clear-stepped _ _ _ _ _ _ _ _ _ _ a.step.a a.step.b a.step.c a.sources.now a.output.now); valid = record { session = unset_valid (clear-live _ _ _ _ _ _ _ _ _ _ a.step.a a.step.b a.step.c a.sources.now a.output.now _ _ _ c.requires.session); stacks = c.requires.stacks }; same = record { words_same = refl; tags_same = refl; derived_same = arrays_same _; special_same = refl; stacks_same = refl } }
 
-pub returns-in-Clear-clause-valid_session_2 : goal.returns-in-Clear-clause-valid_session_2
-returns-in-Clear-clause-valid_session_2 c = let a = c.args in clear-live a.set a.n a.offset a.words.now a.log.now a.logtags.now a.starts.now a.maps.now a.special.now a.ends a.step.a a.step.b a.step.c a.sources.now a.output.now a.tags.now target_bytes a.buckets.now c.requires.valid_session
+pub returns-in-MapSpan : goal.returns-in-MapSpan
+returns-in-MapSpan c = let a = c.args in rw c.mapped.ensures (record { does = by_number a.step.a a.step.b a.step.c a.sources.now a.output.now (meant a.session.now) (number_is c.in-Ok.ensures c.in-MapSpan.is) (span_stepped _ _ _ _ _ _ _ _ _ _ a.step.a a.step.b a.step.c a.sources.now a.output.now _ _ _ c.map_span.ensures); valid = c.requires; same = memory_same _ })
 
-pub returns-in-MapSpan-clause-perform_ensures : goal.returns-in-MapSpan-clause-perform_ensures
-returns-in-MapSpan-clause-perform_ensures c = let a = c.args in rw c.mapped.ensures (by_number a.step.a a.step.b a.step.c a.sources.now a.output.now (session_of a.set a.n a.offset a.words.now a.log.now a.logtags.now a.starts.now a.maps.now a.special.now a.ends) (number_is c.in-Ok.ensures c.in-MapSpan.is) (span_stepped a.set a.n a.offset a.words.now a.log.now a.logtags.now a.starts.now a.maps.now a.special.now a.ends a.step.a a.step.b a.step.c a.sources.now a.output.now _ _ _ c.map_span.ensures))
+pub returns-in-HasRequiredSpecialTypes : goal.returns-in-HasRequiredSpecialTypes
+returns-in-HasRequiredSpecialTypes c = let a = c.args in record { does = by_number a.step.a a.step.b a.step.c a.sources.now a.output.now (meant a.session.now) (number_is c.in-Ok.ensures c.in-HasRequiredSpecialTypes.is) (required_stepped _ _ _ _ _ _ _ _ _ _ a.step.a a.step.b a.step.c a.sources.now a.output.now _ c.has_required_special_types.ensures); valid = record { session = c.requires.session; stacks = c.requires.stacks }; same = record { words_same = refl; tags_same = refl; derived_same = arrays_same _; special_same = refl; stacks_same = refl } }
 
-pub returns-in-HasRequiredSpecialTypes-clause-perform_ensures : goal.returns-in-HasRequiredSpecialTypes-clause-perform_ensures
-returns-in-HasRequiredSpecialTypes-clause-perform_ensures c = let a = c.args in by_number a.step.a a.step.b a.step.c a.sources.now a.output.now (session_of a.set a.n a.offset a.words.now a.log.now a.logtags.now a.starts.now a.maps.now a.special.now a.ends) (number_is c.in-Ok.ensures c.in-HasRequiredSpecialTypes.is) (required_stepped a.set a.n a.offset a.words.now a.log.now a.logtags.now a.starts.now a.maps.now a.special.now a.ends a.step.a a.step.b a.step.c a.sources.now a.output.now _ c.has_required_special_types.ensures)
+pub returns-in-ImportType : goal.returns-in-ImportType
+returns-in-ImportType c = let a = c.args in rw c.imported.ensures (record { does = by_first (first_is c.import.result) ((type_recorded (number_is c.in-Ok.ensures c.in-ImportType.is) c.import.ensures.does).is a.sources.now a.output.now); valid = c.import.ensures.valid; same = c.import.ensures.same })
 
-pub returns : goal.returns
-returns c =
-    let a = c.args in
-    let x = a.step in
-    let m = c.match-operation in
-    let h : Imports x.operation x.a x.b x.c (session_of a.set a.n a.offset a.words.now a.log.now a.logtags.now a.starts.now a.maps.now a.special.now a.ends) a.set a.n a.offset a.words.now a.tags.now a.special.now m.log m.logtags m.starts m.maps m.buckets m.stacks a.ends m.said =
-    elim m.branch [
-      | in-ImportType w ↦ rw (w.log-is, w.logtags-is, w.starts-is, w.maps-is, w.buckets-is, w.stacks-is, w.said-is) (record { recorded = type_recorded (number_is c.in-Ok.ensures w.in-ImportType.is) w.import-said.ensures.operation_ensures; valid = w.import-said.ensures.valid_session_2; stacked = stacks_low c.requires.stacks w.import-said.ensures.valid_session_2.lowest })
-      | in-RenameType w ↦ rw (w.log-is, w.logtags-is, w.starts-is, w.maps-is, w.buckets-is, w.stacks-is, w.said-is) (record { recorded = rename_recorded (number_is c.in-Ok.ensures w.in-RenameType.is) w.rename_type-said.ensures.operation_ensures; valid = w.rename_type-said.ensures.valid_session; stacked = stacks_low c.requires.stacks w.rename_type-said.ensures.valid_session.lowest })
-      | in-ImportConst w ↦ rw (w.log-is, w.logtags-is, w.starts-is, w.maps-is, w.buckets-is, w.stacks-is, w.said-is) (record { recorded = constant_recorded (number_is c.in-Ok.ensures w.in-ImportConst.is) w.import-said-in-ImportConst.ensures.operation_ensures; valid = w.import-said-in-ImportConst.ensures.valid_session_2; stacked = stacks_low c.requires.stacks w.import-said-in-ImportConst.ensures.valid_session_2.lowest })
-      | in-ImportPipelineOverride w ↦ rw (w.log-is, w.logtags-is, w.starts-is, w.maps-is, w.buckets-is, w.stacks-is, w.said-is) (record { recorded = override_recorded (number_is c.in-Ok.ensures w.in-ImportPipelineOverride.is) w.import-said-in-ImportPipelineOverride.ensures.operation_ensures; valid = w.import-said-in-ImportPipelineOverride.ensures.valid_session_2; stacked = stacks_low c.requires.stacks w.import-said-in-ImportPipelineOverride.ensures.valid_session_2.lowest })
-      | in-ImportGlobal w ↦ rw (w.log-is, w.logtags-is, w.starts-is, w.maps-is, w.buckets-is, w.stacks-is, w.said-is) (record { recorded = global_recorded (number_is c.in-Ok.ensures w.in-ImportGlobal.is) w.import-said-in-ImportGlobal.ensures.operation_ensures; valid = w.import-said-in-ImportGlobal.ensures.valid_session_2; stacked = stacks_low c.requires.stacks w.import-said-in-ImportGlobal.ensures.valid_session_2.lowest })
-      | in-ImportGlobalExpression w ↦ rw (w.log-is, w.logtags-is, w.starts-is, w.maps-is, w.buckets-is, w.stacks-is, w.said-is) (record { recorded = expression_recorded (number_is c.in-Ok.ensures w.in-ImportGlobalExpression.is) w.import-said-in-ImportGlobalExpression.ensures.operation_ensures; valid = w.import-said-in-ImportGlobalExpression.ensures.valid_session_2; stacked = stacks_low c.requires.stacks w.import-said-in-ImportGlobalExpression.ensures.valid_session_2.lowest })
-      | in-ImportFunction w ↦ rw (w.log-is, w.logtags-is, w.starts-is, w.maps-is, w.buckets-is, w.stacks-is, w.said-is) (record { recorded = function_recorded (number_is c.in-Ok.ensures w.in-ImportFunction.is) w.import_function-said.ensures.operation_ensures; valid = w.import_function-said.ensures.valid_session_2; stacked = w.import_function-said.ensures.stacks_2 })
-      | in-ImportFunctionIfNew w ↦ rw (w.log-is, w.logtags-is, w.starts-is, w.maps-is, w.buckets-is, w.stacks-is, w.said-is) (record { recorded = elim w.in-ImportFunctionIfNew.is [ inl e ↦ new_recorded (number_is c.in-Ok.ensures e) w.map_function_handle-said.ensures.operation_ensures | inr e ↦ handle_recorded (number_is c.in-Ok.ensures e) w.map_function_handle-said.ensures.operation_ensures ]; valid = w.map_function_handle-said.ensures.valid_session_2; stacked = w.map_function_handle-said.ensures.stacks_2 })
-    ]
-    in rw c.imported.ensures (record { perform_ensures = by_first (first_is m.said) (h.recorded.is a.sources.now a.output.now); valid_session_2 = h.valid; stacks_2 = h.stacked })
+pub returns-in-RenameType : goal.returns-in-RenameType
+returns-in-RenameType c = let a = c.args in rw c.imported-in-RenameType.ensures (record { does = by_first (first_is c.rename_type.result) ((rename_recorded (number_is c.in-Ok.ensures c.in-RenameType.is) c.rename_type.ensures.does).is a.sources.now a.output.now); valid = c.rename_type.ensures.valid; same = c.rename_type.ensures.same })
+
+pub returns-in-ImportConst : goal.returns-in-ImportConst
+returns-in-ImportConst c = let a = c.args in rw c.imported-in-ImportConst.ensures (record { does = by_first (first_is c.import-in-ImportConst.result) ((constant_recorded (number_is c.in-Ok.ensures c.in-ImportConst.is) c.import-in-ImportConst.ensures.does).is a.sources.now a.output.now); valid = c.import-in-ImportConst.ensures.valid; same = c.import-in-ImportConst.ensures.same })
+
+pub returns-in-ImportPipelineOverride : goal.returns-in-ImportPipelineOverride
+returns-in-ImportPipelineOverride c = let a = c.args in rw c.imported-in-ImportPipelineOverride.ensures (record { does = by_first (first_is c.import-in-ImportPipelineOverride.result) ((override_recorded (number_is c.in-Ok.ensures c.in-ImportPipelineOverride.is) c.import-in-ImportPipelineOverride.ensures.does).is a.sources.now a.output.now); valid = c.import-in-ImportPipelineOverride.ensures.valid; same = c.import-in-ImportPipelineOverride.ensures.same })
+
+pub returns-in-ImportGlobal : goal.returns-in-ImportGlobal
+returns-in-ImportGlobal c = let a = c.args in rw c.imported-in-ImportGlobal.ensures (record { does = by_first (first_is c.import-in-ImportGlobal.result) ((global_recorded (number_is c.in-Ok.ensures c.in-ImportGlobal.is) c.import-in-ImportGlobal.ensures.does).is a.sources.now a.output.now); valid = c.import-in-ImportGlobal.ensures.valid; same = c.import-in-ImportGlobal.ensures.same })
+
+pub returns-in-ImportGlobalExpression : goal.returns-in-ImportGlobalExpression
+returns-in-ImportGlobalExpression c = let a = c.args in rw c.imported-in-ImportGlobalExpression.ensures (record { does = by_first (first_is c.import-in-ImportGlobalExpression.result) ((expression_recorded (number_is c.in-Ok.ensures c.in-ImportGlobalExpression.is) c.import-in-ImportGlobalExpression.ensures.does).is a.sources.now a.output.now); valid = c.import-in-ImportGlobalExpression.ensures.valid; same = c.import-in-ImportGlobalExpression.ensures.same })
+
+pub returns-in-ImportFunction : goal.returns-in-ImportFunction
+returns-in-ImportFunction c = let a = c.args in rw c.imported-in-ImportFunction.ensures (record { does = by_first (first_is c.import_function.result) ((function_recorded (number_is c.in-Ok.ensures c.in-ImportFunction.is) c.import_function.ensures.does).is a.sources.now a.output.now); valid = c.import_function.ensures.valid; same = c.import_function.ensures.same })
+
+pub returns-in-ImportFunctionIfNew : goal.returns-in-ImportFunctionIfNew
+returns-in-ImportFunctionIfNew c = let a = c.args in let h = c.map_function_handle.ensures in rw c.imported-in-ImportFunctionIfNew.ensures (record { does = by_first (first_is c.map_function_handle.result) (elim c.in-ImportFunctionIfNew.is [ inl e ↦ (new_recorded (number_is c.in-Ok.ensures e) h.does).is a.sources.now a.output.now | inr e ↦ (handle_recorded (number_is c.in-Ok.ensures e) h.does).is a.sources.now a.output.now ]); valid = h.valid; same = h.same })

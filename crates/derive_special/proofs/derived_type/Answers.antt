@@ -1,6 +1,6 @@
 use mathlib.Core.Path.{refl}
 use Rattle.derive_special.proofs.Keys.{seek_first, seek_next, seek_hit, seek_none}
-use Rattle.derive_special.proofs.derived.Goals as goal
+use Rattle.derive_special.proofs.derived_type.Goals as goal
 
 pub loop-j-init : goal.loop-j-init
 loop-j-init c = seek_first c.args.special.now c.args.n c.args.key

@@ -1,0 +1,51 @@
+-- A session in arrays of the caller: the model's session that it means, when it is valid between two operations, and what an operation on it promises.
+use Rattle.std.specs.Prelude.{◌≡◌, ℕ, Bool, true, false, List, Option, None, Some}
+use Rattle.model.specs.Session.{Session as Session', Answer}
+use Rattle.derive_state.specs.Refers.{target_bytes}
+use Rattle.derive_state.specs.Sizes.{going}
+use Rattle.derive_state.specs.Held.{SameArrays}
+use Rattle.function_builder.specs.Stacks.{Stacks}
+use Rattle.derive_session.specs.Valid.{session_of, ValidSession}
+use Rattle.session_operations.specs.Operations.{OperationEnsures, FinishEnsures}
+use Rattle.session_operations.specs.declared.SetSource.{SetSource}
+use Rattle.session_operations.specs.declared.Session.{Session}
+
+-- ---- the source: whether one is set, its words and its offset
+abbrev pub is_set : Option SetSource → Bool
+is_set None = false
+is_set (Some s) = true
+
+abbrev pub n_in : Option SetSource → ℕ
+n_in None = 0
+n_in (Some s) = s.n
+
+abbrev pub offset_in : Option SetSource → ℕ
+offset_in None = 0
+offset_in (Some s) = s.offset
+
+-- ---- the session
+abbrev pub meant : Session → Session'
+meant s = session_of (is_set s.source) (n_in s.source) (offset_in s.source) s.words.now s.derived.log.now s.derived.logtags.now s.derived.starts.now s.derived.maps.now s.special.now (going s.sizes)
+
+pub record Valid (s : Session) : Type 0 where
+  pub session : ValidSession (is_set s.source) (n_in s.source) (offset_in s.source) s.words.now s.tags.now target_bytes s.derived.log.now s.derived.logtags.now s.derived.starts.now s.derived.maps.now s.derived.buckets.now s.special.now (going s.sizes)
+  pub stacks : Stacks s.stacks.now (going s.sizes)
+
+-- the arrays are the caller's, as they were
+pub record SameMemory (s s' : Session) : Type 0 where
+  pub words_same : s'.words.ghost_name ≡ s.words.ghost_name
+  pub tags_same : s'.tags.ghost_name ≡ s.tags.ghost_name
+  pub derived_same : SameArrays s.derived s'.derived
+  pub special_same : s'.special.ghost_name ≡ s.special.ghost_name
+  pub stacks_same : s'.stacks.ghost_name ≡ s.stacks.ghost_name
+
+-- ---- what an operation does
+pub record Operates {A : Type 0} (op : Session' → Answer A) (s : Session) (refusal : ℕ) (value : A) (s' : Session) : Type 0 where
+  pub does : OperationEnsures op (meant s) refusal value (meant s')
+  pub valid : Valid s'
+  pub same : SameMemory s s'
+
+pub record Finishes (op : Session' → Answer (List ℕ)) (s : Session) (refusal bytes : ℕ) (output₀ output : List ℕ) (s' : Session) : Type 0 where
+  pub does : FinishEnsures (op (meant s)) (meant s) refusal bytes output₀ output (meant s')
+  pub valid : Valid s'
+  pub same : SameMemory s s'
