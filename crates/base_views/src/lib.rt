@@ -42,7 +42,8 @@ pub const SPECIAL: usize = 8;
 // The words in front of an entry point's function.
 pub const ENTRY_HEAD: usize = 7;
 
-// A module that is laid out: words, the class of each, and how many of them are the module's.
+// A module that is laid out: words, the class of each, and how many of them are the module's. That they hold a module, which is `Tape`, stays a clause of contracts:
+// a ghost field says a proposition, and `Tape` has the module as a field.
 #[derive(Clone, Copy)]
 pub struct Image<'a> {
     pub words: &'a Words,

@@ -15,7 +15,7 @@ use base_words::store;
 use derive_sections::{all_sizes, appearing, write_heads, write_tables};
 use derive_state::{Derived, Special};
 
-// How many functions and entry points an image may have.
+// How many functions and entry points an image may have. Limits, which stand for no kind.
 const MOST_FUNCTIONS: usize = 256;
 
 const MOST_ENTRIES: usize = 16;

@@ -2,7 +2,7 @@
 // to, the table and the number there; and the import, which calls itself on what a record refers to.
 #![tactic(auto)]
 
-ghost use Rattle.std.specs.Prelude.{◌≡◌, false, ◌<◌};
+ghost use Rattle.std.specs.Prelude.{MatchOption, ◌≡◌, ◌<◌, ◌≤◌};
 ghost use Rattle.model.specs.Module.{count_at};
 ghost use Rattle.model.specs.References.{target};
 ghost use Rattle.model.specs.Tables.{types};
@@ -14,43 +14,27 @@ ghost use Rattle.derive_state.specs.Held.{Valid, Imports};
 use base_handles::TypeHandle;
 use base_views::{Image, NAMES, TYPES};
 use derive_intern::intern;
-use derive_state::{
-    DerivedMut, Full, NOTHING, OPTIONAL, ShaderSource, Sizes, number_of, target_of,
-};
+use derive_state::{DerivedMut, Full, ShaderSource, Sizes, Target, target_of};
 
-// What a word refers to: the number of a table, or NOTHING, and a number in that table.
+// A record: its table, and its number there.
 #[derive(Clone, Copy)]
 pub struct Reference {
     pub table: usize,
     pub number: u32,
 }
 
-// What the word w of the class s refers to.
-pub fn refers_to(s: u8, w: u32) -> Reference
-    ensures { (result.table ≡ refers_to (target s) w) × (result.number ≡ number_of (target s) w) }
+// The record that the word w of the class s refers to.
+pub fn refers_to(s: u8, w: u32) -> Option<Reference>
+    ensures { MatchOption result (6 ≤ refers_to (target s) w) (λ r. (r.table ≡ refers_to (target s) w) × (r.number ≡ number_of (target s) w) × (r.table < 6)) }
 {
-    let u = target_of(s);
-    if u < NOTHING {
-        return Reference {
-            table: u,
-            number: w,
-        };
-    }
-    if u < OPTIONAL {
-        return Reference {
-            table: NOTHING,
-            number: number_of(w),
-        };
-    }
-    if w == 0 {
-        return Reference {
-            table: NOTHING,
-            number: 0,
-        };
-    }
-    Reference {
-        table: u - OPTIONAL,
-        number: w - 1,
+    match target_of(s) {
+        Target::Nothing | Target::Function => None,
+        Target::Record(table) => Some(Reference { table, number: w }),
+        Target::Optional(_) if w == 0 => None,
+        Target::Optional(table) => Some(Reference {
+            table,
+            number: w - 1,
+        }),
     }
 }
 
@@ -76,8 +60,7 @@ pub fn import(
     let end = source.image.record_end(table, k);
     let mut e = ends;
     for j in at..end {
-        let r = refers_to(source.image.tags[j], source.image.words[j]);
-        if r.table < NOTHING {
+        if let Some(r) = refers_to(source.image.tags[j], source.image.words[j]) {
             e = import(source, derived, e, r.table, r.number)?;
         }
     }
@@ -105,8 +88,7 @@ pub fn rename_type(
     let end = source.image.record_end(TYPES, k);
     let mut e = import(source, derived, ends, NAMES, name)?;
     for j in at + 1..end {
-        let r = refers_to(source.image.tags[j], source.image.words[j]);
-        if r.table < NOTHING {
+        if let Some(r) = refers_to(source.image.tags[j], source.image.words[j]) {
             e = import(source, derived, e, r.table, r.number)?;
         }
     }

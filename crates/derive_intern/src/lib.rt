@@ -22,7 +22,7 @@ use derive_state::{
 // records that are not equal mostly differ there.
 fn equals_record(image: Image, derived: &Derived, at: usize, end: usize, s: usize) -> bool
     requires readable { Readable image.words.now image.tags.now target_bytes at end }
-    requires s_bound { (s + suc (get_or derived.now.log.now s 0) ≤ 16384) × (length derived.now.log.now ≡ 16384) × (length derived.now.logtags.now ≡ 16384) × (length derived.now.maps.now ≡ 6) }
+    requires s_bound { (s + suc (get_or derived.now.log.now s 0) ≤ 16384) × (length derived.now.log.now ≡ 16384) × (length derived.now.logtags.now ≡ 16384) }
     ensures { result ≡ alikeOf (rec_at derived.now.log.now derived.now.logtags.now s) (carried_by (went_r derived.now.maps.now) image.entry.tags.now image.entry.words.now at end) }
 {
     let n = end - at;
@@ -40,7 +40,7 @@ fn equals_record(image: Image, derived: &Derived, at: usize, end: usize, s: usiz
 // The first of table t's n records that is, ignoring spans, what the source's words become.
 fn find(image: Image, derived: &Derived, at: usize, end: usize, t: usize, n: usize) -> Option<usize>
     requires readable { Readable image.words.now image.tags.now target_bytes at end }
-    requires t_bound { (t < 8) × (n ≤ 512) × (length derived.now.log.now ≡ 16384) × (length derived.now.logtags.now ≡ 16384) × (length derived.now.maps.now ≡ 6) × (length (row derived.now.starts.now t) ≡ 512) }
+    requires t_bound { (t < 8) × (n ≤ 512) × (length derived.now.log.now ≡ 16384) × (length derived.now.logtags.now ≡ 16384) × (length (row derived.now.starts.now t) ≡ 512) }
     requires by_index { (k : ℕ) → k < n → cell derived.now.starts.now t k + suc (get_or derived.now.log.now (cell derived.now.starts.now t k) 0) ≤ 16384 }
     ensures { MatchOption result (n ≡ index_of (recs_at derived.now.log.now derived.now.logtags.now (take n (row derived.now.starts.now t))) (carried_by (went_r derived.now.maps.now) image.entry.tags.now image.entry.words.now at end)) (λ j. (j < n) × (j ≡ index_of (recs_at derived.now.log.now derived.now.logtags.now (take n (row derived.now.starts.now t))) (carried_by (went_r derived.now.maps.now) image.entry.tags.now image.entry.words.now at end))) }
 {

@@ -1,5 +1,5 @@
 -- A number plus 1 is 0 where there is none.
-use Rattle.std.specs.Prelude.{◌≡◌, ℕ, suc, pred, true, false, Option, None, Some}
+use Rattle.std.specs.Prelude.{◌≡◌, ℕ, pred, true, false, Option, None, Some}
 use Rattle.std.proofs.Common.{arith}
 use mathlib.Core.Path.{refl, sym}
 use Rattle.std.proofs.lemmas.Bool.{false≢true}

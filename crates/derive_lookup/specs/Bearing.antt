@@ -31,7 +31,7 @@ pub record Heads (log logtags starts : List ℕ) (n : ℕ) : Type 0 where
   pub within : (k : ℕ) → k < n → suc (get_or starts k 0) < 16384
   pub first : (k : ℕ) → k < n → name_word (function_of (rec_at log logtags (get_or starts k 0))) ≡ get_or log (suc (get_or starts k 0)) 0
 
--- the names and the functions of a state
+-- the names and the functions of a state; a clause, and part of `Valid`, which is one for the reason given there
 pub record Bearing (log logtags : List ℕ) (starts : List (List ℕ)) (e : Sizes) : Type 0 where
   pub names : Names log logtags (get_or starts 0 []) (get_or e.counts 0 0)
   pub functions : Heads log logtags (get_or starts 6 []) (get_or e.counts 6 0)

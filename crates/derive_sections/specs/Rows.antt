@@ -17,7 +17,7 @@ pub record Rec (names : ℕ) (log logtags : List ℕ) (s : ℕ) : Type 0 where
   pub within : s + suc (get_or log s 0) ≤ 16384
   pub low : (i : ℕ) → s < i → i < suc s + get_or log s 0 → get_or logtags i 0 ≡ NAME → get_or log i 0 ≤ names
 
--- a table's records
+-- a table's records; a clause, since finishing asks it of a row that is its own, the names as they first appear, beside the rows of the module
 pub record Row (names : ℕ) (log logtags ss : List ℕ) (n : ℕ) : Type 0 where
   pub row_long : length ss ≡ 512
   pub few : n ≤ 512

@@ -8,7 +8,7 @@ use Rattle.model.specs.References.{Place, table, own, function, Target, copied, 
 use Rattle.derive_state.proofs.State.{code_low}
 use Rattle.theory_records.specs.RecordLaws.{All, bare_w}
 use Rattle.theory_records.specs.Kinds.{far_copied}
-use Rattle.derive_state.specs.Refers.{code_p, target_of, targets_from, target_bytes, went_r, Small}
+use Rattle.derive_state.specs.Refers.{code_p, target_of, went_r, Small}
 
 -- ---- a value that a function has on a range of numbers
 abbrev pub agrees : (ℕ → ℕ) → ℕ → ℕ → ℕ → Bool
@@ -25,13 +25,7 @@ span_of f v lo (suc n) e s a b =
     go true p here there = rw (eqb-true s lo p) here
     go false p here there = there (omega (arith, eqb-false s lo p))
 
--- ---- the table of targets
-targets_from_lem : (n lo s : ℕ) → s < n → get_or (targets_from lo n) s 0 ≡ target_of (target (lo + s))
-unfolding targets_from
-targets_from_lem zero lo s h = absurd (omega arith)
-targets_from_lem (suc n) lo zero h = let z : lo + 0 ≡ lo = omega arith in rw z
-targets_from_lem (suc n) lo (suc s) h = let z : lo + suc s ≡ suc lo + s = omega arith in rw z (targets_from_lem n (suc lo) s (omega arith))
-
+-- ---- targets
 -- a test that holds on a range of numbers
 abbrev below : (ℕ → ℕ) → ℕ → ℕ → ℕ → Bool
 below f v lo zero = true
@@ -51,11 +45,17 @@ pub kind_small : (s : ℕ) → s < 256 → target_of (target s) < 14
 unfolding target_of code_p code_t target targets
 kind_small s h = below_at (λ s. target_of (target s)) 14 0 256 refl s (omega arith) h
 
-pub kind_is : (kinds : List ℕ) → kinds ≡ target_bytes → (s i : ℕ) → i ≡ s → i < 256 → (r : ℕ) → r ≡ get_or kinds i 0 → (r ≡ target_of (target s)) × (r < 14)
-unfolding target_bytes
-kind_is kinds e s i q h r is =
-    let a : r ≡ target_of (target s) = is ∙ rw (e, q) (let z : 0 + s ≡ s = omega arith in rw z at (targets_from_lem 256 0 s (omega arith))) in
-    (a, rw a (kind_small s (omega arith)))
+-- classes whose words refer to nothing
+pub nothing_of : (s : ℕ) → s < 256 → (83 ≤ s → s < 95 → ⊥) → (99 ≤ s → s < 103 → ⊥) → 6 ≡ target_of (target s)
+unfolding target_of code_p code_t target targets
+nothing_of s h f g = go (ltb s 83) (ltb s 95) (ltb s 99) (ltb s 103) refl refl refl refl
+  where
+    go : (a b c d : Bool) → ltb s 83 ≡ a → ltb s 95 ≡ b → ltb s 99 ≡ c → ltb s 103 ≡ d → 6 ≡ target_of (target s)
+    go true b c d p q r t = span_of (λ s. target_of (target s)) 6 0 83 refl s (omega arith) (ltb-true s 83 p)
+    go false true c d p q r t = absurd (f (ltb-false s 83 p) (ltb-true s 95 q))
+    go false false true d p q r t = span_of (λ s. target_of (target s)) 6 95 4 refl s (ltb-false s 95 q) (ltb-true s 99 r)
+    go false false false true p q r t = absurd (g (ltb-false s 99 r) (ltb-true s 103 t))
+    go false false false false p q r t = span_of (λ s. target_of (target s)) 6 103 153 refl s (ltb-false s 103 t) (omega arith)
 
 -- ---- codes of places
 

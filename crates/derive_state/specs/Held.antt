@@ -137,7 +137,7 @@ pub record ValidArrays (log logtags : List ℕ) (starts maps : List (List ℕ)) 
   -- every record of the six tables has its bucket
   pub marked : (t k : ℕ) → t < 6 → k < slice_index e.counts t → Marked buckets t k (rec_at log logtags (cell starts t k))
 
--- the special types that the words hold are derived types
+-- the special types that the words hold are derived types; a clause, since it is of these words and of sizes that are apart from them
 pub record Specials (special : List ℕ) (e : Sizes) : Type 0 where
   pub special_long : length special ≡ 1027
   pub rays_in : (i : ℕ) → i < 3 → slice_index special i ≤ slice_index e.counts 1
@@ -176,7 +176,7 @@ pub record SameArrays (d d' : DerivedMut) : Type 0 where
   pub maps_same : d'.maps.ghost_name ≡ d.maps.ghost_name
   pub buckets_same : d'.buckets.ghost_name ≡ d.buckets.ghost_name
 
--- ValidArrays of a derived module and its sizes
+-- ValidArrays of a derived module and its sizes; a clause of contracts and no ghost field, since the two are apart: what is refused leaves the sizes, and the arrays may hold more
 abbrev pub Valid : DerivedMut → Sizes' → Type 0
 Valid d e = ValidArrays d.log.now d.logtags.now d.starts.now d.maps.now d.buckets.now (going e)
 
@@ -197,7 +197,7 @@ pub record ImportsOrUndoes (words : List ℕ) (f : Derived → Derived) (d : Der
   pub same : SameArrays d d'
 
 -- ---- a record of the source on its way
--- it lies in words and tags, its numbers are in rows, and `targets` says what its classes refer to
+-- it lies in words and tags, its numbers are in rows, and `targets` says what its classes refer to; a clause, since of one source there are many such stretches
 pub record Readable (words tags targets : List ℕ) (at end : ℕ) : Type 0 where
   pub stretch : Stretch words tags at end
   pub words_long : length words ≡ 16384

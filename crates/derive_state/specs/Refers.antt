@@ -2,6 +2,8 @@
 use Rattle.std.specs.Prelude.{ℕ, zero, suc, ◌+◌, ◌<◌, List, [], ◌∷◌, slice_index, slice_index_or}
 use Rattle.model.specs.Tables.{Tab, names, types, constants, overrides, globals, exprs, code_t}
 use Rattle.model.specs.References.{Place, table, own, function, Target, copied, start, upto, ref, opt, target, Node}
+use Rattle.derive_state.specs.declared.Target.{Target as Target'}
+use Rattle.derive_state.specs.declared.Target.TheVariants as code
 
 -- an operand of a global expression is a global expression; a function is in none of the six tables
 unfoldable pub code_p : Place → ℕ
@@ -16,6 +18,19 @@ target_of start = 6
 target_of upto = 6
 target_of (ref p) = code_p p
 target_of (opt p) = 8 + code_p p
+
+-- the same of a target as the code has it, which names one of the six tables
+abbrev pub code_of : Target' → ℕ
+code_of code.Nothing = 6
+code_of code.Function = 7
+code_of (code.Record t) = t
+code_of (code.Optional t) = 8 + t
+
+abbrev pub InTable : Target' → Type 0
+InTable code.Nothing = Unit {0}
+InTable code.Function = Unit {0}
+InTable (code.Record t) = t < 6
+InTable (code.Optional t) = t < 6
 
 -- the targets of all classes, as a table of bytes
 unfoldable pub targets_from : ℕ → ℕ → List ℕ

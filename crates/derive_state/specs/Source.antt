@@ -24,7 +24,7 @@ mod_of words n = held_by (read (take n words))
 unfoldable pub src_of : List ℕ → ℕ → Tables
 src_of words n = tables (mod_of words n)
 
--- words and tags of a module that passed tests 3 and 4
+-- words and tags of a module that passed tests 3 and 4; a clause and no ghost field, for the reason that base_views::Image has for `Tape`
 pub record Source (words tags : List ℕ) (n : ℕ) : Type 0 where
   pub taped : Taped words tags n (mod_of words n)
   pub three : numbered (mod_of words n) ≡ true

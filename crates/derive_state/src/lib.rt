@@ -6,12 +6,12 @@
 ghost use Rattle.std.specs.Prelude.{◌≡◌, suc, pred, ◌+◌, ◌-◌, ◌*◌, ◌<◌, ◌≤◌, true, false, [], length, replicate, slice_index, slice_set};
 ghost use Rattle.model.specs.References.{target, ref_of, through, undefined_at, first_word, moved as movedOf, shift, alike_c, alike as alikeOf};
 ghost use Rattle.theory_records.specs.RecordLaws.{All, bare_w};
-ghost use Rattle.derive_state.specs.Refers.{target_of, target_bytes, went_r, Small};
+ghost use Rattle.derive_state.specs.Refers.{target_of, code_of, InTable, target_bytes, went_r, Small};
 ghost use Rattle.derive_state.specs.Marks.{MARKS, hash_r, place_r};
 ghost use Rattle.derive_state.specs.Held.{rec_at, Readable, Written, carried_by};
 
 use base_classes::{SPAN, UPTO};
-use base_views::Image;
+use base_views::{CONSTANTS, EXPRESSIONS, GLOBALS, Image, NAMES, OVERRIDES, TYPES};
 use intake_distinct::mix;
 use std::num::wrapping_add_u32;
 
@@ -145,37 +145,39 @@ pub fn words_left(e: Sizes) -> usize
     16361 - 2 * e.pairs as usize - e.loglen as usize
 }
 
-// Targets: what a word of a class refers to. A record of a table has the table's number; an expression of the word's own function has that of global
-// expressions; then nothing, and a function.
-pub const OWN: usize = 5;
+// What a word refers to: nothing, a function, or a record of a table; one that may be missing is 0 then, and else its number plus 1. An expression of the word's
+// own function has the table of global expressions.
+#[derive(Clone, Copy)]
+pub enum Target {
+    Nothing,
+    Function,
+    Record(usize),
+    Optional(usize),
+}
 
-pub const NOTHING: usize = 6;
-
-pub const FUNCTION: usize = 7;
-
-// Added to a target where the number is optional.
-pub const OPTIONAL: usize = 8;
-
-pub const OPT_OWN: usize = OPTIONAL + OWN;
-
-// The target of each class.
-const TARGETS: [u8; 256] = [
-    6, 6, 6, 6, 6, 6, 6, 6, 6, 6, 6, 6, 6, 6, 6, 6, 6, 6, 6, 6, 6, 6, 6, 6, 6, 6, 6, 6, 6, 6, 6, 6,
-    6, 6, 6, 6, 6, 6, 6, 6, 6, 6, 6, 6, 6, 6, 6, 6, 6, 6, 6, 6, 6, 6, 6, 6, 6, 6, 6, 6, 6, 6, 6, 6,
-    6, 6, 6, 6, 6, 6, 6, 6, 6, 6, 6, 6, 6, 6, 6, 6, 6, 6, 6, 8, 1, 9, 2, 3, 4, 5, 13, 7, 7, 5, 13,
-    6, 6, 6, 6, 5, 13, 5, 13, 6, 6, 6, 6, 6, 6, 6, 6, 6, 6, 6, 6, 6, 6, 6, 6, 6, 6, 6, 6, 6, 6, 6,
-    6, 6, 6, 6, 6, 6, 6, 6, 6, 6, 6, 6, 6, 6, 6, 6, 6, 6, 6, 6, 6, 6, 6, 6, 6, 6, 6, 6, 6, 6, 6, 6,
-    6, 6, 6, 6, 6, 6, 6, 6, 6, 6, 6, 6, 6, 6, 6, 6, 6, 6, 6, 6, 6, 6, 6, 6, 6, 6, 6, 6, 6, 6, 6, 6,
-    6, 6, 6, 6, 6, 6, 6, 6, 6, 6, 6, 6, 6, 6, 6, 6, 6, 6, 6, 6, 6, 6, 6, 6, 6, 6, 6, 6, 6, 6, 6, 6,
-    6, 6, 6, 6, 6, 6, 6, 6, 6, 6, 6, 6, 6, 6, 6, 6, 6, 6, 6, 6, 6, 6, 6, 6, 6, 6, 6, 6, 6, 6, 6, 6,
-    6, 6,
-];
-
-// The target of the class s.
-pub fn target_of(s: u8) -> usize
-    ensures { (result ≡ target_of (target s)) × (result < 14) }
+// What the words of a class refer to.
+pub fn target_of(class: u8) -> Target
+    ensures { (code_of result ≡ target_of (target class)) × InTable result }
 {
-    TARGETS[s as usize] as usize
+    match class {
+        base_classes::NAME => Target::Optional(NAMES),
+        base_classes::TYPE => Target::Record(TYPES),
+        base_classes::OPT_TYPE => Target::Optional(TYPES),
+        base_classes::CONSTANT => Target::Record(CONSTANTS),
+        base_classes::OVERRIDE => Target::Record(OVERRIDES),
+        base_classes::GLOBAL => Target::Record(GLOBALS),
+        base_classes::INIT => Target::Record(EXPRESSIONS),
+        base_classes::OPT_INIT => Target::Optional(EXPRESSIONS),
+        base_classes::FUNCTION => Target::Function,
+        base_classes::CALLEE => Target::Function,
+        base_classes::EXPR => Target::Record(EXPRESSIONS),
+        base_classes::OPT_EXPR => Target::Optional(EXPRESSIONS),
+        base_classes::RESULT => Target::Record(EXPRESSIONS),
+        base_classes::OPT_RESULT => Target::Optional(EXPRESSIONS),
+        base_classes::NAMED_EXPR => Target::Record(EXPRESSIONS),
+        base_classes::LOCAL_INIT => Target::Optional(EXPRESSIONS),
+        _ => Target::Nothing,
+    }
 }
 
 // One less than v, and 0 of 0.
@@ -188,16 +190,14 @@ pub fn number_of(v: u32) -> u32
 // A word carried through the maps.
 pub fn carried(maps: &Maps, s: u8, w: u32) -> u32
     requires all { All Small (ref_of (target s) w []) }
-    requires maps_len { length maps.now ≡ 6 }
     ensures { result ≡ through (went_r maps.now) s w }
 {
-    let u = target_of(s);
-    match u {
-        0..=OWN => number_of(maps[u][w as usize]),
-        NOTHING => w,
-        FUNCTION => 0,
-        _ if w == 0 => 0,
-        _ => maps[u - OPTIONAL][w as usize - 1],
+    match target_of(s) {
+        Target::Nothing => w,
+        Target::Function => 0,
+        Target::Record(t) => number_of(maps[t][w as usize]),
+        Target::Optional(_) if w == 0 => 0,
+        Target::Optional(t) => maps[t][w as usize - 1],
     }
 }
 
@@ -211,7 +211,7 @@ pub fn alike_cell(a: u8, x: u32, b: u8, y: u32) -> bool
 // Whether the record at s is what the source's words from `at` to `end` become, ignoring spans.
 pub fn alike(image: Image, derived: &Derived, at: usize, end: usize, s: usize) -> bool
     requires readable { Readable image.words.now image.tags.now target_bytes at end }
-    requires s_bound { (s + suc (slice_index derived.now.log.now s) ≤ 16384) × (length derived.now.log.now ≡ 16384) × (length derived.now.logtags.now ≡ 16384) × (length derived.now.maps.now ≡ 6) }
+    requires s_bound { (s + suc (slice_index derived.now.log.now s) ≤ 16384) × (length derived.now.log.now ≡ 16384) × (length derived.now.logtags.now ≡ 16384) }
     ensures { result ≡ alikeOf (rec_at derived.now.log.now derived.now.logtags.now s) (carried_by (went_r derived.now.maps.now) image.entry.tags.now image.entry.words.now at end) }
 {
     if derived.log[s] as usize != end - at {
@@ -238,7 +238,7 @@ fn bare_word(s: u8, w: u32) -> u32
 // The hash of what the source's words become in table t.
 fn hash(image: Image, maps: &Maps, at: usize, end: usize, t: usize) -> usize
     requires readable { Readable image.words.now image.tags.now target_bytes at end }
-    requires t_bound { (t < 8) × (length maps.now ≡ 6) }
+    requires t_bound { t < 8 }
     ensures { result ≡ hash_r t (carried_by (went_r maps.now) image.entry.tags.now image.entry.words.now at end) }
 {
     let mut h = t;
@@ -252,7 +252,7 @@ fn hash(image: Image, maps: &Maps, at: usize, end: usize, t: usize) -> usize
 // Its place among the buckets.
 pub fn bucket_of(image: Image, maps: &Maps, at: usize, end: usize, t: usize) -> usize
     requires readable { Readable image.words.now image.tags.now target_bytes at end }
-    requires t_bound { (t < 8) × (length maps.now ≡ 6) }
+    requires t_bound { t < 8 }
     ensures { (result ≡ place_r t (carried_by (went_r maps.now) image.entry.tags.now image.entry.words.now at end)) × (result < MARKS) }
 {
     hash(image, maps, at, end, t) % 16384
@@ -261,7 +261,6 @@ pub fn bucket_of(image: Image, maps: &Maps, at: usize, end: usize, t: usize) -> 
 // Whether the span last met is undefined, once the word w of the class s is read; the words from i on follow it.
 fn undefined_at(image: Image, maps: &Maps, s: u8, w: u32, i: usize, end: usize, u: bool) -> bool
     requires readable { Readable image.words.now image.tags.now target_bytes i end }
-    requires maps_len { length maps.now ≡ 6 }
     ensures { result ≡ undefined_at (target s) w (first_word (carried_by (went_r maps.now) image.entry.tags.now image.entry.words.now i end)) u }
 {
     if s == SPAN {
@@ -293,7 +292,7 @@ pub fn write(
     to: usize,
 )
     requires readable { Readable source.image.words.now source.image.tags.now target_bytes at end }
-    requires at_bound { (to + (end - at) ≤ 16384) × (length log.old ≡ 16384) × (length logtags.old ≡ 16384) × (length maps.now ≡ 6) }
+    requires at_bound { (to + (end - at) ≤ 16384) × (length log.old ≡ 16384) × (length logtags.old ≡ 16384) }
     ensures { Written (shift (carried_by (went_r maps.now) source.entry.image.tags.now source.entry.image.words.now at end) source.entry.offset false) to log.old logtags.old log.new logtags.new }
 {
     let mut u = false;

@@ -13,7 +13,9 @@ use Rattle.model.specs.References.{Place, table, own, function, Target, copied, 
 use Rattle.model.specs.Bodies.{known}
 use Rattle.theory_records.specs.RecordLaws.{All}
 use Rattle.theory_records.specs.Kinds.{far_copied}
-use Rattle.derive_state.specs.Refers.{code_p, target_of, went_r, Small}
+use Rattle.derive_state.specs.declared.Target.{Target as Target'}
+use Rattle.derive_state.specs.declared.Target.TheVariants as code
+use Rattle.derive_state.specs.Refers.{code_of, InTable, code_p, target_of, went_r, Small}
 use Rattle.derive_state.specs.Source.{mod_of}
 use Rattle.derive_state.specs.Held.{st_of}
 use Rattle.derive_state.specs.Sizes.{Sizes}
@@ -111,6 +113,26 @@ module _ (words : List ℕ) (maps : List (List ℕ)) (exprmap : List ℕ) where
   own_in (ref function) w i q a = absurd (omega arith)
   own_in (opt p) w i q a = absurd (omega arith)
 
+  own_is : (g : Target) → 0 ≡ outer g → target_of g < 6 → target_of g ≡ 5
+  unfolding target_of code_p outer own_p
+  own_is copied i l = absurd (omega arith)
+  own_is start i l = absurd (omega arith)
+  own_is upto i l = absurd (omega arith)
+  own_is (ref (table t)) i l = absurd (omega arith)
+  own_is (ref own) i l = refl
+  own_is (ref function) i l = absurd (omega arith)
+  own_is (opt p) i l = absurd (omega arith)
+
+  opt_is : (g : Target) → 0 ≡ outer g → 8 ≤ target_of g → target_of g ≡ 13
+  unfolding target_of code_p outer own_p
+  opt_is copied i l = absurd (omega arith)
+  opt_is start i l = absurd (omega arith)
+  opt_is upto i l = absurd (omega arith)
+  opt_is (ref p) i l = absurd (omega (arith, place-top p))
+  opt_is (opt (table t)) i l = absurd (omega arith)
+  opt_is (opt own) i l = refl
+  opt_is (opt function) i l = absurd (omega arith)
+
   own_W : (g : Target) (w : ℕ) → 0 ≡ outer g → target_of g ≡ 5 → pred (get_or exprmap w 0) ≡ carry_w W g w
   unfolding target_of code_p carry_w went_by outer own_p
   own_W copied w i q = absurd (omega arith)
@@ -165,6 +187,12 @@ module _ (words : List ℕ) (maps : List (List ℕ)) (exprmap : List ℕ) where
       carries_row h r hr = hr ∙ row-W (target s) w (low_class s h) (λ q. ne (is.0 ∙ q)) (omega arith)
 
       module _ (h : 93 ≤ s) where
+        pub own_of : u < 6 → u ≡ 5
+        own_of l = is.0 ∙ own_is (target s) (high_class s h) (omega (arith, is.0))
+
+        pub opt_of : 8 ≤ u → u ≡ 13
+        opt_of l = is.0 ∙ opt_is (target s) (high_class s h) (omega (arith, is.0))
+
         pub carries_in : u ≡ 5 → (m : ℕ) → m ≡ w → m < 1024
         carries_in q m q' = rw q' (own_in (target s) w (high_class s h) (sym is.0 ∙ q) fit)
 
@@ -243,3 +271,10 @@ module _ (words : List ℕ) (n : ℕ) (log logtags : List ℕ) (starts maps : Li
 
     pub carries_by : (u ≡ 7 → ⊥) → (r : ℕ) → r ≡ through (went_by maps exprmap) s w → r ≡ through U s w
     carries_by ne r hr = hr ∙ through-by s w (λ q. ne (is.0 ∙ q))
+
+-- ---- a word that names no function
+pub no_function : (r : Target') → (r ≡ code.Function → ⊥) → InTable r → code_of r ≡ 7 → ⊥
+no_function code.Nothing ne l e = omega (arith, e)
+no_function code.Function ne l e = ne refl
+no_function (code.Record t) ne l e = omega (arith, l, e)
+no_function (code.Optional t) ne l e = omega (arith, e)

@@ -27,11 +27,12 @@ use base_views::Image;
 use base_words::Tags;
 use derive_lookup::known;
 use derive_state::{
-    Derived, ExprMap, FUNCTION, Full, Maps, OPT_OWN, OWN, Places, ShaderSource, Sizes, StackRows,
-    moved, number_of, target_of,
+    Derived, ExprMap, Full, Maps, Places, ShaderSource, Sizes, StackRows, Target, moved, number_of,
+    target_of,
 };
 
-// The rows of the stacks: words and classes of expressions, where each of them starts, and words of declarations, bodies and names.
+// The rows of the stacks: words and classes of expressions, where each of them starts, and words of declarations, bodies and names. Numbers, since C lends the
+// stacks as one array of four rows.
 pub const WORDS: usize = 0;
 
 pub const CLASSES: usize = 1;
@@ -59,7 +60,6 @@ pub fn index(tags: &Tags, at: usize, end: usize, places: &mut Places)
 
 // A word carried through the maps, of a class that names no function.
 pub fn by_maps(maps: &Maps, exprmap: &ExprMap, s: u8, w: u32) -> u32
-    requires maps_len { length maps.now ≡ 6 }
     requires fact { target_of (target s) ≡ 7 → ⊥ }
     requires by_index { (ws : List ℕ) × All (FitN ws 1024) (ref_of (target s) w []) }
     ensures { result ≡ through (went_by maps.now exprmap.now) s w }
@@ -67,11 +67,12 @@ pub fn by_maps(maps: &Maps, exprmap: &ExprMap, s: u8, w: u32) -> u32
     if s < EXPR {
         return derive_state::carried(maps, s, w);
     }
+    // an expression, as all that such words refer to
     match target_of(s) {
-        OWN => number_of(exprmap[w as usize] as u32),
-        OPT_OWN if w == 0 => 0,
-        OPT_OWN => exprmap[(w - 1) as usize] as u32,
-        _ => w,
+        Target::Nothing | Target::Function => w,
+        Target::Record(_) => number_of(exprmap[w as usize] as u32),
+        Target::Optional(_) if w == 0 => 0,
+        Target::Optional(_) => exprmap[(w - 1) as usize] as u32,
     }
 }
 
@@ -79,11 +80,10 @@ pub fn by_maps(maps: &Maps, exprmap: &ExprMap, s: u8, w: u32) -> u32
 pub fn carried(image: Image, derived: &Derived, exprmap: &ExprMap, s: u8, w: u32) -> u32
     requires ground { Ground image.words.now image.tags.now target_bytes image.n }
     requires bearing { Bearing derived.now.log.now derived.now.logtags.now derived.now.starts.now (going derived.now.sizes) }
-    requires maps_len { length derived.now.maps.now ≡ 6 }
     requires all { All (FitN image.words.now 1024) (ref_of (target s) w []) }
     ensures { result ≡ through (went_of image.entry.words.now image.entry.n derived.now.log.now derived.now.logtags.now derived.now.starts.now derived.now.maps.now (going derived.now.sizes) exprmap.now) s w }
 {
-    if target_of(s) == FUNCTION {
+    if let Target::Function = target_of(s) {
         return known(image, derived, w as usize).unwrap_or(0);
     }
     by_maps(derived.maps, exprmap, s, w)
@@ -103,7 +103,6 @@ fn undefined_at(
 ) -> bool
     requires ground { Ground image.words.now image.tags.now target_bytes image.n }
     requires bearing { Bearing derived.now.log.now derived.now.logtags.now derived.now.starts.now (going derived.now.sizes) }
-    requires maps_len { length derived.now.maps.now ≡ 6 }
     requires legible { Legible image.words.now image.tags.now 1024 i end }
     ensures { result ≡ undefined_at (target s) w (first_word (carried_by (went_of image.entry.words.now image.entry.n derived.now.log.now derived.now.logtags.now derived.now.starts.now derived.now.maps.now (going derived.now.sizes) exprmap.now) image.entry.tags.now image.entry.words.now i end)) u }
 {
@@ -124,7 +123,6 @@ pub fn write(
 )
     requires ground { Ground source.image.words.now source.image.tags.now target_bytes source.image.n }
     requires bearing { Bearing derived.now.log.now derived.now.logtags.now derived.now.starts.now (going derived.now.sizes) }
-    requires maps_len { length derived.now.maps.now ≡ 6 }
     requires legible { Legible source.image.words.now source.image.tags.now 1024 at end }
     requires stacks { (Stacks stacks.old (going derived.now.sizes)) × (derived.now.sizes.exprtop + (end - at) ≤ 16384) }
     ensures { Wrote (shift (carried_by (went_of source.entry.image.words.now source.entry.image.n derived.now.log.now derived.now.logtags.now derived.now.starts.now derived.now.maps.now (going derived.now.sizes) exprmap.now) source.entry.image.tags.now source.entry.image.words.now at end) source.entry.offset false) derived.now.sizes.exprtop stacks.old stacks.new }
@@ -151,7 +149,6 @@ pub fn append(
 ) -> Result<Sizes, Full>
     requires ground { Ground source.image.words.now source.image.tags.now target_bytes source.image.n }
     requires bearing { Bearing derived.now.log.now derived.now.logtags.now derived.now.starts.now (going derived.now.sizes) }
-    requires maps_len { length derived.now.maps.now ≡ 6 }
     requires expressions { Expressions source.image.words.now source.image.tags.now expressions.places.now expressions.count }
     requires e_lt_k { e < expressions.count }
     requires under { Under expressions.count exprmap.old stacks.old expressions.base (going derived.now.sizes) }
@@ -196,7 +193,6 @@ fn first_difference(
 ) -> Option<usize>
     requires ground { Ground image.words.now image.tags.now target_bytes image.n }
     requires bearing { Bearing derived.now.log.now derived.now.logtags.now derived.now.starts.now (going derived.now.sizes) }
-    requires maps_len { length derived.now.maps.now ≡ 6 }
     requires legible { Legible image.words.now image.tags.now 1024 at end }
     requires stacks { (Stacks stacks.now (going derived.now.sizes)) × (a ≤ b) × (b ≤ 16384) × (b - a ≡ end - at) }
     ensures { MatchOption result (true ≡ alike (between (row stacks.now 1) (row stacks.now 0) a b) (carried_by (went_of image.entry.words.now image.entry.n derived.now.log.now derived.now.logtags.now derived.now.starts.now derived.now.maps.now (going derived.now.sizes) exprmap.now) image.entry.tags.now image.entry.words.now at end)) (λ p. (at ≤ p) × (p < end) × (false ≡ alike (between (row stacks.now 1) (row stacks.now 0) a b) (carried_by (went_of image.entry.words.now image.entry.n derived.now.log.now derived.now.logtags.now derived.now.starts.now derived.now.maps.now (going derived.now.sizes) exprmap.now) image.entry.tags.now image.entry.words.now at end))) }
@@ -261,7 +257,6 @@ fn find_equal(
 ) -> Option<usize>
     requires ground { Ground image.words.now image.tags.now target_bytes image.n }
     requires bearing { Bearing derived.now.log.now derived.now.logtags.now derived.now.starts.now (going derived.now.sizes) }
-    requires maps_len { length derived.now.maps.now ≡ 6 }
     requires legible { Legible image.words.now image.tags.now 1024 at end }
     requires stacks { (Stacks stacks.now (going derived.now.sizes)) × (Rising (seats_of stacks.now e1 (going derived.now.sizes)) e1 derived.now.sizes.exprtop) × (length (seats_of stacks.now e1 (going derived.now.sizes)) ≡ derived.now.sizes.made) × (at < end) }
     ensures { MatchOption result (derived.now.sizes.made ≡ seat_of (made_of stacks.now e1 (going derived.now.sizes)) (carried_by (went_of image.entry.words.now image.entry.n derived.now.log.now derived.now.logtags.now derived.now.starts.now derived.now.maps.now (going derived.now.sizes) exprmap.now) image.entry.tags.now image.entry.words.now at end)) (λ j. (j < derived.now.sizes.made) × (j ≡ seat_of (made_of stacks.now e1 (going derived.now.sizes)) (carried_by (went_of image.entry.words.now image.entry.n derived.now.log.now derived.now.logtags.now derived.now.starts.now derived.now.maps.now (going derived.now.sizes) exprmap.now) image.entry.tags.now image.entry.words.now at end))) }
@@ -298,7 +293,6 @@ pub fn merge(
 ) -> Result<Sizes, Full>
     requires ground { Ground source.image.words.now source.image.tags.now target_bytes source.image.n }
     requires bearing { Bearing derived.now.log.now derived.now.logtags.now derived.now.starts.now (going derived.now.sizes) }
-    requires maps_len { length derived.now.maps.now ≡ 6 }
     requires expressions { Expressions source.image.words.now source.image.tags.now expressions.places.now expressions.count }
     requires e_lt_k { e < expressions.count }
     requires under { Under expressions.count exprmap.old stacks.old expressions.base (going derived.now.sizes) }

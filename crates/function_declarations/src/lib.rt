@@ -25,7 +25,7 @@ use base_views::EXPRESSIONS;
 use derive_imports::refers_to;
 use derive_state::{DerivedMut, ExprMap, Full, ShaderSource, Sizes, StackRows};
 use function_builder::{ExpressionIndex, merge};
-use function_outside::{import_by_table, import_record};
+use function_outside::import_record;
 use function_runs::{copy_mapped_run, span_undefined};
 use function_words::{advance, put_word};
 
@@ -54,19 +54,20 @@ fn import_initialiser(
     let at = expressions.places[e] as usize;
     for j in at..end {
         let s = source.image.tags[j];
-        let r = refers_to(s, source.image.words[j]);
-        if s < EXPR {
-            got = import_record(source, derived, got, r.table, r.number)?;
-        } else if r.table == EXPRESSIONS {
-            got = import_initialiser(
-                source,
-                expressions,
-                derived,
-                exprmap,
-                stacks,
-                got,
-                r.number as usize,
-            )?;
+        if let Some(r) = refers_to(s, source.image.words[j]) {
+            if s < EXPR {
+                got = import_record(source, derived, got, r)?;
+            } else if r.table == EXPRESSIONS {
+                got = import_initialiser(
+                    source,
+                    expressions,
+                    derived,
+                    exprmap,
+                    stacks,
+                    got,
+                    r.number as usize,
+                )?;
+            }
         }
     }
     merge(source, expressions, &derived.view(got), exprmap, stacks, e)
@@ -91,9 +92,11 @@ fn import_declaration_word(
     ensures { Builds source.entry.image.words.now expressions.entry.count (arriveE source.entry.offset (mod_of source.entry.image.words.now source.entry.image.n) still (unites source.entry.offset source.entry.image.words.now source.entry.image.tags.now source.entry.image.n expressions.entry.places.now expressions.entry.count) (unites source.entry.offset source.entry.image.words.now source.entry.image.tags.now source.entry.image.n expressions.entry.places.now expressions.entry.count) (target (get_or source.entry.image.tags.now i 0)) (get_or source.entry.image.words.now i 0)) derived.old exprmap.old stacks.old expressions.entry.base ends result derived.new exprmap.new stacks.new }
 {
     let s = source.image.tags[i];
-    let r = refers_to(s, source.image.words[i]);
+    let Some(r) = refers_to(s, source.image.words[i]) else {
+        return Ok(ends);
+    };
     if s < EXPR {
-        return import_by_table(source, derived, ends, r.table, r.number);
+        return import_record(source, derived, ends, r);
     }
     if r.table != EXPRESSIONS {
         return Ok(ends);

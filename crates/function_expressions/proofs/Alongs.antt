@@ -1,12 +1,14 @@
 -- The references of an expression, one by one: what those that are passed make of the function under construction at the entry is what the arrays hold. A record of a table is one import, an operand one step of h; what is full on the way is full at the end.
 use mathlib.Core.Path.{◌≡◌, refl, sym, ap, ◌∙◌}
-use mathlib.Core.Bool.{true, false}
+use mathlib.Core.Bool.{Bool, true, false}
 use mathlib.Core.List.{List, [], ◌∷◌, ◌++◌}
 use Prim.Native.Nat.{ℕ, suc, ◌+◌, ◌≤◌, ◌<◌}
 use native.Mathlib.Nat.{le_refl}
 use native.Mathlib.Numerals.{add-one}
 use native.Mathlib.Omega.{arith}
 use lib.ListN.{get_or}
+use lib.Dec.{ltb}
+use borrow.Author.Tests.{ltb-true, ltb-false}
 use Rattle.model.specs.Outcome.{Cells, class, word}
 use Rattle.model.specs.Table.{EXPR}
 use Rattle.model.specs.Module.{Module, count_at}
@@ -26,6 +28,7 @@ use Rattle.derive_state.specs.Sizes.{Sizes}
 use Rattle.function_references.specs.Fits.{Legible, record_of}
 use Rattle.function_outside.proofs.Cells.{arrive_own, arrive_none, arrive-still, fit_own, fit-table}
 use Rattle.function_outside.proofs.Passing.{legible_next, legible_here}
+use Rattle.function_outside.proofs.Records.{lands_none}
 use Rattle.function_references.specs.Cuts.{exprs_of, Expressions}
 use Rattle.function_builder.specs.Stacks.{making_of, Under}
 use Rattle.function_builder.specs.Makes.{Makes, Lays}
@@ -137,6 +140,14 @@ module _ {words tags : List ℕ} {n k o b at end : ℕ} {h : ℕ → Builder →
         -- nothing
         pub along-none : EXPR ≤ s → (t ≡ 5 → ⊥) → Turned e log logtags starts maps buckets exprmap stacks
         along-none high ne = turn (λ m. m) (λ m. rw (← hs) (arrive_none o M still h h s (get_or words i 0) m high (λ q. ne (ht ∙ q)))) e log logtags starts maps buckets exprmap stacks stay
+
+        -- no record, and so no operand
+        pub along_absent : 6 ≤ t → Turned e log logtags starts maps buckets exprmap stacks
+        along_absent l = go (ltb s EXPR) refl
+          where
+            go : (b : Bool) → ltb s EXPR ≡ b → Turned e log logtags starts maps buckets exprmap stacks
+            go true q = along_record (ltb-true s EXPR q) (lands_none o (src_of words n) t j words log logtags starts maps buckets e inv.going along-kept l)
+            go false q = along-none (ltb-false s EXPR q) (λ z. absurd (omega arith))
 
       module _ {r : Sizes} {log' logtags' : List ℕ} {starts' maps' : List (List ℕ)} {buckets' exprmap' : List ℕ} {stacks' : List (List ℕ)} (A : Turned r log' logtags' starts' maps' buckets' exprmap' stacks') where
         pub along-next : r.full ≡ false → Alongs words tags n k o b at end h log₀ logtags₀ starts₀ maps₀ buckets₀ exprmap₀ stacks₀ e₁ e₀ log' logtags' starts' maps' buckets' exprmap' stacks' r (i + 1)

@@ -22,7 +22,7 @@ use base_words::Words;
 use derive_imports::refers_to;
 use derive_state::{DerivedMut, ExprMap, Full, Places, ShaderSource, Sizes, StackRows};
 use function_builder::{ExpressionIndex, append};
-use function_outside::{import_by_table, import_outside, missing};
+use function_outside::{import_outside, import_record};
 
 // Imports expression e of k, which is not mapped, with what it refers to outside the function.
 fn import_unmapped(
@@ -107,15 +107,14 @@ pub fn import_standing(
     let at = expressions.places[e] as usize;
     for j in at..end {
         let s = source.image.tags[j];
-        let r = refers_to(s, source.image.words[j]);
-        if s < EXPR {
-            if missing(derived.maps, r.table, r.number) {
-                got = import_by_table(source, derived, got, r.table, r.number)?;
-            }
-        } else if r.table == EXPRESSIONS {
-            let x = r.number as usize;
-            if is_unmapped_standing(source.image.words, expressions.places, exprmap, x) {
-                got = import_unmapped(source, expressions, derived, exprmap, stacks, got, x)?;
+        if let Some(r) = refers_to(s, source.image.words[j]) {
+            if s < EXPR {
+                got = import_record(source, derived, got, r)?;
+            } else if r.table == EXPRESSIONS {
+                let x = r.number as usize;
+                if is_unmapped_standing(source.image.words, expressions.places, exprmap, x) {
+                    got = import_unmapped(source, expressions, derived, exprmap, stacks, got, x)?;
+                }
             }
         }
     }

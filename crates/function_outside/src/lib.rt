@@ -12,55 +12,25 @@ ghost use Rattle.function_references.specs.Fits.{Ground, Legible, record_of};
 ghost use Rattle.derive_state.specs.Refers.{target_bytes};
 
 use base_classes::EXPR;
-use base_views::EXPRESSIONS;
-use derive_imports::{import, refers_to};
-use derive_state::{DerivedMut, Full, Maps, ShaderSource, Sizes};
+use derive_imports::{Reference, import, refers_to};
+use derive_state::{DerivedMut, Full, ShaderSource, Sizes};
 
-// Imports record h of table t; nothing where t is no table.
-pub fn import_by_table(
-    source: ShaderSource,
-    derived: &mut DerivedMut,
-    ends: Sizes,
-    t: usize,
-    h: u32,
-) -> Result<Sizes, Full>
-    requires ground { Ground source.image.words.now source.image.tags.now target_bytes source.image.n }
-    requires h_bound { t < 6 → h < count_at t source.image.words.now }
-    requires valid_arrays { Valid derived.old ends }
-    ensures { Imports source.entry.image.words.now (record_of source.entry.offset (src_of source.entry.image.words.now source.entry.image.n) t h) derived.old ends result derived.new }
-{
-    if EXPRESSIONS < t {
-        return Ok(ends);
-    }
-    import(source, derived, ends, t, h)
-}
-
-// Whether record h of table t is not mapped; no where t is no table. This is tested for every word, and most records are mapped.
-pub fn missing(maps: &Maps, t: usize, h: u32) -> bool
-    requires { t < 6 → h < 512 }
-    ensures t_bound { result ≡ true → (t < 6) × (cell maps.now t h ≡ 0) }
-    ensures h_nonzero { result ≡ false → t < 6 → 0 < cell maps.now t h }
-{
-    t <= EXPRESSIONS && maps[t][h as usize] == 0
-}
-
-// The same as import_by_table, but tests first whether the record is mapped.
+// Imports a record. Whether it is mapped is tested here, and not in `import` alone: this is called for every word, and most records are mapped.
 pub fn import_record(
     source: ShaderSource,
     derived: &mut DerivedMut,
     ends: Sizes,
-    t: usize,
-    h: u32,
+    r: Reference,
 ) -> Result<Sizes, Full>
     requires ground { Ground source.image.words.now source.image.tags.now target_bytes source.image.n }
-    requires h_bound { t < 6 → h < count_at t source.image.words.now }
+    requires r_bound { (r.table < 6) × (r.number < count_at r.table source.image.words.now) }
     requires valid_arrays { Valid derived.old ends }
-    ensures { Imports source.entry.image.words.now (record_of source.entry.offset (src_of source.entry.image.words.now source.entry.image.n) t h) derived.old ends result derived.new }
+    ensures { Imports source.entry.image.words.now (record_of source.entry.offset (src_of source.entry.image.words.now source.entry.image.n) r.table r.number) derived.old ends result derived.new }
 {
-    if !missing(derived.maps, t, h) {
+    if derived.maps[r.table][r.number as usize] != 0 {
         return Ok(ends);
     }
-    import_by_table(source, derived, ends, t, h)
+    import(source, derived, ends, r.table, r.number)
 }
 
 // Imports what the words from `at` to `end` refer to outside the function.
@@ -80,9 +50,8 @@ pub fn import_outside(
     for j in at..end {
         let s = source.image.tags[j];
         if s < EXPR {
-            let r = refers_to(s, source.image.words[j]);
-            if missing(derived.maps, r.table, r.number) {
-                e = import_by_table(source, derived, e, r.table, r.number)?;
+            if let Some(r) = refers_to(s, source.image.words[j]) {
+                e = import_record(source, derived, e, r)?;
             }
         }
     }

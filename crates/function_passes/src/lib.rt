@@ -33,7 +33,7 @@ use function_runs::atomic;
 use function_words::put_word;
 
 // Imports what word i of a body refers to: an expression of the function, or a record of a table.
-// import_declaration_word does so of declarations, and merges the expression. One function for both would be no plainer: beside its fourteen parameters it would
+// import_declaration_word does so of declarations, and merges the expression. One function for both would be no plainer: beside its seven parameters it would
 // take another that tells them apart, and its contract would say both.
 fn import_body_word(
     source: ShaderSource,
@@ -52,9 +52,11 @@ fn import_body_word(
     ensures { Builds source.entry.image.words.now expressions.entry.count (arriveE source.entry.offset (mod_of source.entry.image.words.now source.entry.image.n) still (needs source.entry.offset source.entry.image.words.now source.entry.image.tags.now source.entry.image.n expressions.entry.places.now expressions.entry.count) (glances source.entry.offset source.entry.image.words.now source.entry.image.tags.now source.entry.image.n expressions.entry.places.now expressions.entry.count) (target (get_or source.entry.image.tags.now i 0)) (get_or source.entry.image.words.now i 0)) derived.old exprmap.old stacks.old expressions.entry.base ends result derived.new exprmap.new stacks.new }
 {
     let s = source.image.tags[i];
-    let r = refers_to(s, source.image.words[i]);
+    let Some(r) = refers_to(s, source.image.words[i]) else {
+        return Ok(ends);
+    };
     if s < EXPR {
-        return import_record(source, derived, ends, r.table, r.number);
+        return import_record(source, derived, ends, r);
     }
     if r.table != EXPRESSIONS {
         return Ok(ends);

@@ -19,7 +19,7 @@ Fits words k function j = j < count_at 6 words
 abbrev pub FitN : List ℕ → ℕ → Node → Type 0
 FitN words k j = Fits words k j.place j.num
 
--- a source that passed intake, and the table of what classes refer to
+-- a source that passed intake, and the table of what classes refer to; a clause and no ghost field, as `Source` is, which it has as a field
 pub record Ground (words tags targets : List ℕ) (n : ℕ) : Type 0 where
   pub source : Source words tags n
   pub names : named (mod_of words n) ≡ true

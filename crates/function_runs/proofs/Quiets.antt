@@ -12,7 +12,9 @@ use Rattle.model.specs.Table.{EXPR, FROM, TO, STMT_KIND}
 use Rattle.model.specs.References.{Place, Target, targets, target, ref_of, through, moved}
 use Rattle.theory_records.specs.RecordLaws.{All}
 use Rattle.theory_passes.specs.Pass.{atomic_kind}
-use Rattle.derive_state.specs.Refers.{target_of}
+use Rattle.derive_state.specs.Refers.{target_of, code_of, InTable}
+use Rattle.derive_state.specs.declared.Target.{Target as Target'}
+use Rattle.derive_state.specs.declared.Target.TheVariants as code
 use Rattle.derive_state.specs.Source.{refers_to, number_of}
 use Rattle.derive_state.specs.Held.{put}
 use Rattle.function_references.specs.Fits.{FitN, Legible}
@@ -51,12 +53,23 @@ refers_none g w e = rw e
 pub quiet-nothing : (maps : List (List ℕ)) (exprmap : List ℕ) (s w : ℕ) → target_of (target s) ≡ 6 → (s ≡ FROM → ⊥) → (s ≡ STMT_KIND → atomic_kind w ≡ false) → Quiet maps exprmap s w
 quiet-nothing maps exprmap s w e nf na = let r = refers_none (target s) w e in record { callee = λ q. omega arith; emit = nf; atomic = na; outside = λ l z. absurd (omega arith); inside = λ l z. absurd (omega arith) }
 
+-- nothing alone has the code 6
+pub code-some : (r : Target') → InTable r → (r ≡ code.Nothing → ⊥) → code_of r ≡ 6 → ⊥
+code-some code.Nothing l ne q = ne refl
+code-some code.Function l ne q = absurd (omega arith)
+code-some (code.Record t) l ne q = absurd (omega arith)
+code-some (code.Optional t) l ne q = absurd (omega arith)
+
 module _ (maps : List (List ℕ)) (exprmap : List ℕ) (s w : ℕ) (some : target_of (target s) ≡ 6 → ⊥) (callee : target_of (target s) ≡ 7 → ⊥) (t h : ℕ) (ht : t ≡ refers_to (target s) w) (hh : h ≡ number_of (target s) w) where
   pub quiet_own : EXPR ≤ s → t ≡ 5 → (get_or exprmap h 0 ≡ 0 → ⊥) → Quiet maps exprmap s w
   quiet_own l z ne = record { callee = callee; emit = λ e. some (emit_none s e); atomic = λ e. absurd (some (kind-none s e)); outside = λ x. absurd (omega arith); inside = λ x y. rw hh at ne }
 
   pub quiet-absent : EXPR ≤ s → (t ≡ 5 → ⊥) → Quiet maps exprmap s w
   quiet-absent l ne = record { callee = callee; emit = λ e. some (emit_none s e); atomic = λ e. absurd (some (kind-none s e)); outside = λ x. absurd (omega arith); inside = λ x y. absurd (ne (ht ∙ y)) }
+
+-- a word that refers to no record
+pub quiet-beyond : (maps : List (List ℕ)) (exprmap : List ℕ) (s w : ℕ) → (target_of (target s) ≡ 6 → ⊥) → (target_of (target s) ≡ 7 → ⊥) → 6 ≤ refers_to (target s) w → Quiet maps exprmap s w
+quiet-beyond maps exprmap s w some callee r = record { callee = callee; emit = λ e. some (emit_none s e); atomic = λ e. absurd (some (kind-none s e)); outside = λ l z. absurd (omega arith); inside = λ l z. absurd (omega arith) }
 
 -- the numbers that are looked up are in range
 pub numbers_low : (words : List ℕ) (s w : ℕ) → All (FitN words 1024) (ref_of (target s) w []) → (s < EXPR → refers_to (target s) w < 6 → number_of (target s) w < 512) × (EXPR ≤ s → refers_to (target s) w ≡ 5 → number_of (target s) w < 1024)

@@ -17,7 +17,7 @@ ghost use Rattle.function_runs.specs.Copied.{Quiet, becomes, Ran};
 use base_classes::{EXPR, FROM, SPAN, STMT_KIND, TO};
 use base_views::{EXPRESSIONS, Image};
 use derive_imports::refers_to;
-use derive_state::{ExprMap, FUNCTION, Maps, NOTHING, ShaderSource, StackRows, moved, target_of};
+use derive_state::{ExprMap, Maps, ShaderSource, StackRows, Target, moved, target_of};
 use function_builder::{BODY, by_maps};
 
 // Whether the span last met is undefined, once word i is read.
@@ -48,23 +48,18 @@ fn is_mapped_word(maps: &Maps, exprmap: &ExprMap, s: u8, w: u32) -> bool
     ensures { result ≡ true → Quiet maps.now exprmap.now s w }
 {
     match target_of(s) {
-        NOTHING => s != FROM && (s != STMT_KIND || !atomic(w)),
-        FUNCTION => false,
-        _ => {
-            let r = refers_to(s, w);
-            let h = r.number as usize;
-            if s < EXPR {
-                EXPRESSIONS < r.table || maps[r.table][h] != 0
-            } else {
-                r.table != EXPRESSIONS || exprmap[h] != 0
-            }
-        }
+        Target::Nothing => s != FROM && (s != STMT_KIND || !atomic(w)),
+        Target::Function => false,
+        _ => match refers_to(s, w) {
+            None => true,
+            Some(r) if s < EXPR => maps[r.table][r.number as usize] != 0,
+            Some(r) => r.table != EXPRESSIONS || exprmap[r.number as usize] != 0,
+        },
     }
 }
 
 // What such a word becomes, where so many expressions are made: that is the end of an Emit's range; any other goes through the maps, with its span moved.
 fn carry(maps: &Maps, exprmap: &ExprMap, made: usize, offset: u32, s: u8, w: u32, u: bool) -> u32
-    requires maps_len { length maps.now ≡ 6 }
     requires fact { (target_of (target s) ≡ 7 → ⊥) × (made ≤ 16384) }
     requires by_index { (ws : List ℕ) × All (FitN ws 1024) (ref_of (target s) w []) }
     ensures { result ≡ becomes (went_by maps.now exprmap.now) made offset s w u }
@@ -94,7 +89,6 @@ pub fn copy_mapped_run(
     end: usize,
     undefined: bool,
 ) -> Reach
-    requires maps_len { length maps.now ≡ 6 }
     requires legible { (Legible source.image.words.now source.image.tags.now 1024 at end) × (bodytop ≤ 16384) × (made ≤ 16384) }
     ensures { Ran source.entry.image.words.now source.entry.image.tags.now maps.now exprmap.now (went_by maps.now exprmap.now) made source.entry.offset at end bodytop undefined stacks.old result.at result.undefined stacks.new }
 {

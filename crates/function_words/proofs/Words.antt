@@ -5,9 +5,9 @@ use mathlib.Core.List.{List, [], ◌∷◌}
 use Prim.Native.Nat.{ℕ, zero, suc, ◌+◌, ◌-◌, ◌≤◌, ◌<◌}
 use native.Mathlib.Numerals.{add-one}
 use native.Mathlib.Omega.{arith}
-use lib.Dec.{eqb}
+use lib.Dec.{eqb, ltb}
 use lib.ListN.{length, get_or}
-use borrow.Author.Tests.{eqb-true, eq-eqb, ne_eqb}
+use borrow.Author.Tests.{eqb-true, eq-eqb, ne_eqb, ltb-true, ltb-false}
 use Rattle.model.specs.Outcome.{Cells, class, word}
 use Rattle.model.specs.Table.{EXPR, OPT_EXPR, FROM, TO, ATOMIC, STMT_KIND}
 use Rattle.model.specs.Module.{Module, count_at}
@@ -26,6 +26,7 @@ use Rattle.derive_state.specs.Held.{ValidArrays, ImportEnsures}
 use Rattle.derive_state.specs.Sizes.{Sizes}
 use Rattle.function_references.specs.Fits.{Fits, FitN, record_of}
 use Rattle.function_outside.proofs.Cells.{arrive-still, arrive_own, arrive_none, fit_own, fit-table}
+use Rattle.function_outside.proofs.Records.{lands_none}
 use Rattle.function_builder.specs.Stacks.{went_of, making_of, Under}
 use Rattle.function_builder.specs.Makes.{Makes, Pushed}
 use Rattle.function_builder.proofs.Stack.{fit-more}
@@ -181,6 +182,14 @@ module _ (words : List ℕ) (n k o : ℕ) (p q : ℕ → Builder → Builder) (s
 
     pub brings_nothing : EXPR ≤ s → (t ≡ 5 → ⊥) → e₀.full ≡ false → Makes words k brings log₀ logtags₀ starts₀ maps₀ buckets₀ exprmap₀ stacks₀ e₁ e₀ e₀ log₀ logtags₀ starts₀ maps₀ buckets₀ exprmap₀ stacks₀
     brings_nothing l ne nf = makes-idle K₀ U₀ nf (λ m. arrive_none o (mod_of words n) still p q s w m l (λ z. ne (ht ∙ z)))
+
+    -- neither a record of a table nor an expression
+    pub brings_none : 6 ≤ t → e₀.full ≡ false → Makes words k brings log₀ logtags₀ starts₀ maps₀ buckets₀ exprmap₀ stacks₀ e₁ e₀ e₀ log₀ logtags₀ starts₀ maps₀ buckets₀ exprmap₀ stacks₀
+    brings_none z nf = go (ltb s EXPR) refl
+      where
+        go : (b : Bool) → ltb s EXPR ≡ b → Makes words k brings log₀ logtags₀ starts₀ maps₀ buckets₀ exprmap₀ stacks₀ e₁ e₀ e₀ log₀ logtags₀ starts₀ maps₀ buckets₀ exprmap₀ stacks₀
+        go true l = brings_record (ltb-true s EXPR l) (lands_none o (src_of words n) t h words log₀ logtags₀ starts₀ maps₀ buckets₀ e₀ nf K₀ z)
+        go false l = brings_nothing (ltb-false s EXPR l) (λ q. omega arith) nf
 
   pub brings_expression : EXPR ≤ s → t ≡ 5 → {e : ℕ} → e ≡ h → {log₀ logtags₀ : List ℕ} {starts₀ maps₀ : List (List ℕ)} {buckets₀ exprmap₀ : List ℕ} {stacks₀ : List (List ℕ)} {e₁ : ℕ} {e₀ r : Sizes} {log logtags : List ℕ} {starts maps : List (List ℕ)} {buckets exprmap : List ℕ} {stacks : List (List ℕ)}
       → Makes words k (p e) log₀ logtags₀ starts₀ maps₀ buckets₀ exprmap₀ stacks₀ e₁ e₀ r log logtags starts maps buckets exprmap stacks → Makes words k brings log₀ logtags₀ starts₀ maps₀ buckets₀ exprmap₀ stacks₀ e₁ e₀ r log logtags starts maps buckets exprmap stacks

@@ -26,7 +26,6 @@ pub fn put_word(
 ) -> Result<Sizes, Full>
     requires ground { Ground source.image.words.now source.image.tags.now target_bytes source.image.n }
     requires bearing { Bearing derived.now.log.now derived.now.logtags.now derived.now.starts.now (going derived.now.sizes) }
-    requires maps_len { length derived.now.maps.now ≡ 6 }
     requires i_bound { (i < 16384) × (All (FitN source.image.words.now 1024) (ref_of (target (get_or source.image.tags.now i 0)) (get_or source.image.words.now i 0) [])) }
     requires stacks { Stacks stacks.old (going derived.now.sizes) }
     ensures { Pushed (movedOf (target (get_or source.entry.image.tags.now i 0)) (through (went_of source.entry.image.words.now source.entry.image.n derived.now.log.now derived.now.logtags.now derived.now.starts.now derived.now.maps.now (going derived.now.sizes) exprmap.now) (get_or source.entry.image.tags.now i 0) (get_or source.entry.image.words.now i 0)) source.entry.offset u) stacks.old (going derived.now.sizes) (told result) stacks.new }

@@ -31,7 +31,7 @@ fn test(image: Image) -> Result<usize, Refusal>
 }
 
 // Takes an image in: its count of words, or the refusal of the first test that fails. If it is accepted, words and tags hold it; if it is refused, nothing is
-// promised about them.
+// promised about them. They are two arrays, as a caller holds them, and no Image, which is of arrays that are filled.
 pub fn take_in(image: &[u8], words: &mut Words, tags: &mut Tags) -> Result<usize, Refusal>
     requires words_len { length words.old ≡ 16384 }
     requires tags_len { length tags.old ≡ 16384 }

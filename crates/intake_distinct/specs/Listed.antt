@@ -16,7 +16,7 @@ place_of ws k j = elim (eqb k 8) [ true ↦ offset_at 8 ws + 3 + 2 * j | false �
 unfoldable pub number_at : List ℕ → ℕ → ℕ → ℕ
 number_at ws k j = get_or ws (place_of ws k j) 0
 
--- they are in the words
+-- they are in the words; a clause, since it is of words and of one section
 pub record Placed (ws : List ℕ) (k : ℕ) : Type 0 where
   pub known : k < 9
   pub offset : (j : ℕ) → j < count_at k ws → (k ≡ 8 → ⊥) → offset_at k ws + j < 16384

@@ -47,7 +47,7 @@ fn absent(words: &Words, k: usize, from: usize, x: u32) -> bool
     (from..count(words, k)).all(|j| x != number(words, k, j))
 }
 
-// The mark of a place at which hashes of other prints meet.
+// The mark of a place at which hashes of other prints meet: a number, since the marks are bytes, and the others are prints, 1 to 254.
 const SEVERAL: u8 = 255;
 
 // The mark that a hash leaves.

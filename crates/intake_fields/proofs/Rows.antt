@@ -8,10 +8,11 @@ use Prim.Native.Nat.{ℕ, zero, suc, ◌+◌, ◌*◌, ◌-◌, ◌≤◌, ◌<�
 use native.Mathlib.Nat.{le_of_suc-le-suc, not-suc-le-zero, add-zero, zero-add, add-suc, suc-add}
 use native.Mathlib.Numerals.{add-one}
 use native.Mathlib.Omega.{arith}
-use lib.Dec.{T, ltb, leb, ltb→lt, leb→le}
+use lib.Dec.{T, eqb, ltb, leb, ltb→lt, leb→le}
 use lib.ListN.{length, get_or, drop, take, get_elem?, length-map, length-append, get_or-append}
 use lib.Seq.{drop-cons, get_or-drop, get_or-take}
-use borrow.Author.Tests.{lt-ltb, le-ltb, ne_eqb, le-leb, lt-leb}
+use Rattle.std.proofs.lemmas.Bool.{eqb-false}
+use borrow.Author.Tests.{lt-ltb, le-ltb, ne_eqb, eqb-true, le-leb, lt-leb}
 use Rattle.theory_lists.specs.Lists.{missed}
 use Rattle.model.specs.Table.{Row, TYPE_KIND, BLOCK, CASES, LENGTH, limit, counted, variants}
 use Rattle.intake_fields.specs.Parts.{case_row, statement_rows, rows, over, nothing, once, brings_of}
@@ -145,6 +146,14 @@ module _ (p : ℕ) (h : p < ROWS) where
     pub large : 105 ≤ get_or numbers p 0 → 108 ≤ get_or numbers p 0
     unfolding either
     large l = leb→le 108 (get_or numbers p 0) (second (ltb (get_or numbers p 0) 105) _ (and_right (ltb (get_or numbers p 0) 126) _ rest) (le-ltb (get_or numbers p 0) 105 l))
+
+  -- a number of the rows is a class or 0
+  pub class_or_0 : get_or numbers p 0 < 126
+  class_or_0 = go (eqb (get_or numbers p 0) 0) refl
+    where
+      go : (b : Bool) → eqb (get_or numbers p 0) 0 ≡ b → get_or numbers p 0 < 126
+      go true e = omega (arith, eqb-true (get_or numbers p 0) 0 e)
+      go false e = symbol (eqb-false (get_or numbers p 0) 0 e)
 
 -- ---- lists of rows, blocks and cases
 pub record ListEntry (s : ℕ) (r : Row) : Type 0 where

@@ -1,5 +1,6 @@
 // Laying out a record: one class for each word, by one table and recursion. A walk starts at a word and ends after the record, or finds a misfit or a code that
-// is none of the listed. The tags have the class of each word that was passed.
+// is none of the listed. The tags have the class of each word that was passed. Words and tags are two parameters: words are only read and tags only written,
+// and with one struct of a & and a &mut each contract would have to say besides that the words are the same and that the tags are still the caller's array.
 #![tactic(auto)]
 
 pub mod table;
@@ -11,26 +12,10 @@ ghost use Rattle.intake_fields.specs.Parts.{read_b, statement_of, piece, pieces,
 ghost use Rattle.intake_fields.specs.Rows.{ROWS, numbers, row_at, MoreIs};
 ghost use Rattle.intake_fields.specs.Walks.{refusal_of, Takes, RowEnsures, Fills};
 
+use base_classes::{BLOCK, CASES, EXPR, LENGTH, MEMBERS, OPERANDS, PAD, TEXT, TYPE_KIND, WORD};
 use base_refusals::Refusal;
 use base_words::{Tags, Words};
 use table::{KIND_ROW, SYMBOLS, entry};
-
-// Classes as the table has them.
-const MEMBERS: u16 = base_classes::MEMBERS as u16;
-
-const PAD: u16 = base_classes::PAD as u16;
-
-const TEXT: u16 = base_classes::TEXT as u16;
-
-const OPERANDS: u16 = base_classes::OPERANDS as u16;
-
-const TYPE_KIND: u16 = base_classes::TYPE_KIND as u16;
-
-const BLOCK: u16 = base_classes::BLOCK as u16;
-
-const CASES: u16 = base_classes::CASES as u16;
-
-const LENGTH: u16 = base_classes::LENGTH as u16;
 
 // Why words cannot be read: they do not fit, or a code is none of the listed.
 #[derive(Clone, Copy, Debug, PartialEq, Eq)]
@@ -85,7 +70,7 @@ fn padded(words: &Words, tags: &mut Tags, at: usize, end: usize, k: u32) -> Resu
     requires k_nonzero { (0 < k) × (k < 4) }
     ensures { RowEnsures result tags.new tags.old at end (run (slice at end words.now) ((104 + k) ∷ [])) }
 {
-    let last = word(words, tags, at, end, base_classes::PAD - 1 + k as u8)?;
+    let last = word(words, tags, at, end, PAD - 1 + k as u8)?;
     let most = 1 << (8 * k);
     if most <= last {
         return Err(Misread::Misfit);
@@ -100,8 +85,8 @@ fn text(words: &Words, tags: &mut Tags, at: usize, end: usize) -> Result<usize, 
     requires end_bound { end ≤ 16384 }
     ensures { RowEnsures result tags.new tags.old at end (run (slice at end words.now) (108 ∷ [])) }
 {
-    let bytes = word(words, tags, at, end, base_classes::TEXT)?;
-    let i = fill(tags, at + 1, end, base_classes::WORD, bytes / 4)?;
+    let bytes = word(words, tags, at, end, TEXT)?;
+    let i = fill(tags, at + 1, end, WORD, bytes / 4)?;
     match bytes % 4 {
         0 => Ok(i),
         k => padded(words, tags, i, end, k),
@@ -115,12 +100,12 @@ fn operands(words: &Words, tags: &mut Tags, at: usize, end: usize) -> Result<usi
     requires end_bound { end ≤ 16384 }
     ensures { RowEnsures result tags.new tags.old at end (run (slice at end words.now) (109 ∷ [])) }
 {
-    let n = word(words, tags, at, end, base_classes::OPERANDS)?;
-    fill(tags, at + 1, end, base_classes::EXPR, n)
+    let n = word(words, tags, at, end, OPERANDS)?;
+    fill(tags, at + 1, end, EXPR, n)
 }
 
 // What the table has for a symbol from MEMBERS on: its row and limit, or where its group starts and how many it has.
-fn pair(s: u16) -> (usize, u32)
+fn pair(s: u8) -> (usize, u32)
     requires { (110 ≤ s) × (s < 126) }
     ensures row_or_group { result.0 ≡ get_or numbers (SYMBOLS + 2 * (s - 110)) 0 }
     ensures limit_or_count { result.1 ≡ get_or numbers (SYMBOLS + 2 * (s - 110) + 1) 0 }
@@ -130,7 +115,7 @@ fn pair(s: u16) -> (usize, u32)
 }
 
 // What follows the word w of a list, a variant, a block, cases or a statement's kind: the row at a place of the table, a number of times.
-fn brings(s: u16, w: u32) -> Result<(usize, u32), Misread>
+fn brings(s: u8, w: u32) -> Result<(usize, u32), Misread>
     requires le_s { (110 ≤ s) × (s < 126) }
     requires fact { s ≡ 124 → ⊥ }
     ensures { MoreIs s w result }
@@ -159,7 +144,7 @@ fn opened(
     tags: &mut Tags,
     at: usize,
     end: usize,
-    s: u16,
+    s: u8,
     left: u32,
 ) -> Result<usize, Misread>
     requires at_le_end { at ≤ end }
@@ -169,7 +154,7 @@ fn opened(
     requires fact { s ≡ 124 → ⊥ }
     ensures { RowEnsures result tags.new tags.old at end (opening left s (slice at end words.now)) }
 {
-    let w = word(words, tags, at, end, s as u8)?;
+    let w = word(words, tags, at, end, s)?;
     let (pc, count) = brings(s, w)?;
     times(words, tags, at + 1, end, pc, count, left)
 }
@@ -182,7 +167,7 @@ fn stmt(words: &Words, tags: &mut Tags, at: usize, end: usize, left: u32) -> Res
     requires end_bound { end ≤ 16384 }
     ensures { RowEnsures result tags.new tags.old at end (statement_of (read_b left) (slice at end words.now)) }
 {
-    let n = word(words, tags, at, end, base_classes::LENGTH)?;
+    let n = word(words, tags, at, end, LENGTH)?;
     let i = row(words, tags, at + 1, end, KIND_ROW, left)?;
     if at + n as usize == i {
         Ok(i)
@@ -198,7 +183,7 @@ fn part(
     tags: &mut Tags,
     at: usize,
     end: usize,
-    s: u16,
+    s: u8,
     left: u32,
 ) -> Result<usize, Misread>
     requires at_le_end { at ≤ end }
@@ -236,13 +221,13 @@ pub fn row(
     let mut i = at;
     let mut p = pc;
     loop {
-        let s = entry(p);
+        let s = entry(p) as u8;
         if s == 0 {
             return Ok(i);
         }
         p += 1;
         if s < PAD {
-            word(words, tags, i, end, s as u8)?;
+            word(words, tags, i, end, s)?;
             i += 1;
         } else {
             i = part(words, tags, i, end, s, left)?;

@@ -4,6 +4,7 @@
 ghost use Rattle.std.specs.Prelude.{◌≡◌, ◌<◌, get_or};
 ghost use Rattle.intake_fields.specs.Rows.{numbers};
 
+// SYMBOLS to PAIR_ROW are places in TABLE, which is an array of numbers, since the model's rows are compared with it by computing.
 // Where the symbols' pairs are, and where the records' rows are.
 pub const SYMBOLS: usize = 468;
 

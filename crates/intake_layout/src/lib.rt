@@ -1,5 +1,5 @@
 // Reading an image: its bytes into words, and for each word its class, the tags. An image of a wrong size, one that does not fit the format and one with a kind
-// or a code that is none of the listed are refused here.
+// or a code that is none of the listed are refused here. Words and tags are two parameters, as in intake_fields, which says why; lay_out also writes the words.
 #![tactic(auto)]
 
 pub mod section;

@@ -1,5 +1,5 @@
-// Laying out the header and the sections: each record has its extent, and each section its place. A misfit ends it at once; a code that is none of the listed is
-// remembered, since a misfit after it is what is told.
+// Laying out the header and the sections: each record has its extent, and each section its place. A misfit ends it at once; a code that is none of the listed
+// is remembered, since a misfit after it is what is told. Words and tags are two parameters, as in intake_fields, which says why.
 ghost use Rattle.std.specs.Prelude.{◌≡◌, true, ◌+◌, ◌-◌, ◌*◌, ◌^◌, ◌≤◌, ◌<◌, length, take, get_or};
 ghost use Rattle.std.proofs.Math.Seq.{slice};
 ghost use Rattle.model.specs.Module.{limits, placed as placed_of, end_at, next};
@@ -12,7 +12,8 @@ use base_words::{Tags, Words};
 use intake_fields::table::{PAIR_ROW, RAYS_ROW, RECORDS, entry};
 use intake_fields::{Misread, fill, row, times};
 
-// Where the header has the offset of section 1, and that of section k + 1 is 2 k words further; and where it has those of the special types.
+// Where the header has the offset of section 1, and that of section k + 1 is 2 k words further; and where it has those of the special types. They are places, and
+// stand for no kind.
 const NEXT: usize = OFFSETS + 2;
 
 const SPECIAL_COUNT: usize = COUNTS + 2 * SPECIAL;

@@ -17,7 +17,7 @@ pub record Lent (starts list until : List ℕ) : Type 0 where
   pub list_long : length list ≡ 1024
   pub until_long : length until ≡ 1024
 
--- its lists of locals and expressions have their numbers at the words `locals` and `exprs`
+-- its lists of locals and expressions have their numbers at the words `locals` and `exprs`; a clause, since it has the function as a field
 pub record Known (words tags : List ℕ) (locals exprs end : ℕ) : Type 0 where
   pub function : Function
   pub lists : Lists words tags locals exprs end function

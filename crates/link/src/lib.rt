@@ -14,7 +14,7 @@ use link_words::link_in_order;
 use order_callees::order_of;
 
 // The image linked into the output, in arrays that the caller provides: the bytes written, or the refusal. They may hold anything before, and hold anything after.
-// Nothing is required of `maps` and `buckets`: they are overwritten before use.
+// Nothing is required of `maps` and `buckets`: they are overwritten before use. Words and tags are two arrays that intake fills, and the words serve twice.
 fn linked_in(
     image: &[u8],
     output: &mut [u8],
@@ -37,7 +37,7 @@ fn linked_in(
 }
 
 // The same, its answer as one number: low half the refusal, 0 accepted; high half the bytes written, or with 12 the functions left.
-// A number and no `Result`, since C reads one number.
+// A number and no `Result`, since C reads one number; and the arrays one by one, as C lends them.
 pub fn link_in(
     image: &[u8],
     output: &mut [u8],

@@ -55,8 +55,8 @@ fn append_all(
     Ok(e)
 }
 
-// Links in that order, in the caller's arrays. Finishing no longer needs the image's words, so it uses their array as scratch memory. What is imported always fits,
-// as the contracts of the three imports say, so that the refusals for a full module are never given.
+// Links in that order, in the caller's arrays. Finishing no longer needs the image's words, so it uses their array as scratch memory: hence words, tags and n, and no
+// Image. All that a linkable image has fits, so that the refusals for a full module are never given.
 pub fn link_in_order(
     words: &mut Words,
     tags: &Tags,

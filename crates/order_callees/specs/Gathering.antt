@@ -48,7 +48,7 @@ pub record Framed (words tags : List ℕ) : Type 0 where
   pub offsets : offset_at 6 words + count_at 6 words ≤ 16384
   pub each : (i : ℕ) → i < count_at 6 words → Spans words tags i
 
--- what test 3 has shown of the callees, of the module that words and tags hold
+-- what test 3 has shown of the callees, of the module that words and tags hold; a clause beside `Tape`, for the reason that base_views::Image has for that
 abbrev pub Known : List ℕ → List ℕ → ℕ → Type 0
 Known words tags n = (m : Module) → Taped words tags n m → CalleesKnown m
 

@@ -1,5 +1,6 @@
 // Replaces the original by the replacement in Calls and CallResults: one pass over the words and the tags of the functions and the entry points, which leaves
-// the replacement and the omitted functions as they are.
+// the replacement and the omitted functions as they are. Words and tags are two parameters: words are written and tags only read, as in intake_fields, which says
+// why that is no struct.
 #![tactic(auto)]
 
 ghost use Rattle.std.specs.Prelude.{◌≡◌, suc, ◌≤◌, ◌<◌, eqb, length};

@@ -1,6 +1,6 @@
 // Redirecting over the words and the tags of an image that passed intake. Functions are found by name number, their argument
 // and result types are compared, and the original is replaced by the replacement in Calls and CallResults. The tests read and change nothing; the pass after
-// them goes once over the functions and the entry points.
+// them goes once over the functions and the entry points. What writes words takes words and tags as two parameters, as redirect_calls does.
 #![tactic(auto)]
 
 ghost use Rattle.std.specs.Prelude.{◌≡◌, ◌∷◌, ◌+◌, ◌*◌, ◌<◌, length, get_or};

@@ -38,7 +38,7 @@ fn first_of(first: u64, refusal: u32, j: usize) -> u64
 // All steps, in arrays that the caller provides. 0 if every step was accepted; else the refusal of the first refused step in the low half, and that step's
 // number in the high half. The arrays may hold anything before, and hold anything after. Nothing is required of `maps` and `buckets`: they are overwritten
 // before use.
-// A number and no `Result`, since C reads one number.
+// A number and no `Result`, since C reads one number; and the arrays one by one, as C lends them.
 pub fn session_in(
     sources: &[u8],
     steps: &[u32],

@@ -5,7 +5,7 @@ use mathlib.Core.Bool.{false≢true}
 use mathlib.Core.Option.{none, some}
 use borrow.Author.Tests.{not-false}
 use Rattle.model.specs.Module.{count_at}
-use Rattle.model.specs.Tables.{Tab, names, types, is_t, code_t, Tables, tables, count, map_at}
+use Rattle.model.specs.Tables.{Tab, names, types, is_t, code_t, tables, count, map_at}
 use Rattle.model.specs.Imports.{Derived, import_t, renamed}
 use Rattle.model.specs.Refusals.{NUMBER_GIVEN, NO_SOURCE}
 use Rattle.model.specs.Session.{Source, Session, Answer, answered, refused, after, with_source, unless_full, importing, rename_type}

@@ -27,6 +27,7 @@ offset_in (Some s) = s.offset
 abbrev pub meant : Session → Session'
 meant s = session_of (is_set s.source) (n_in s.source) (offset_in s.source) s.words.now s.derived.log.now s.derived.logtags.now s.derived.starts.now s.derived.maps.now s.special.now (going s.sizes)
 
+-- a clause and no ghost field: that takes a proof that what it says is a proposition, and `WellFormed`, which is in `Reached`, has none
 pub record Valid (s : Session) : Type 0 where
   pub session : ValidSession (is_set s.source) (n_in s.source) (offset_in s.source) s.words.now s.tags.now target_bytes s.derived.log.now s.derived.logtags.now s.derived.starts.now s.derived.maps.now s.derived.buckets.now s.special.now (going s.sizes)
   pub stacks : Stacks s.stacks.now (going s.sizes)

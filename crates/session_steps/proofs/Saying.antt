@@ -12,7 +12,7 @@ use Rattle.model.specs.Steps.{Said, operations, unknown, says, perform, part}
 use Rattle.derive_limits.specs.Reached.{Reached, Public}
 use Rattle.derive_limits.proofs.Reached.{does-reached}
 use Rattle.theory_sessions.specs.Operating.{does, clears}
-use Rattle.derive_state.specs.Refers.{tab_of, target_bytes}
+use Rattle.derive_state.specs.Refers.{tab_of}
 use Rattle.derive_state.specs.Sizes.{Sizes}
 use Rattle.derive_session.specs.Valid.{session_of, ValidSession}
 use Rattle.std.specs.Prelude.{Result, Ok, Err}

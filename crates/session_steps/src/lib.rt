@@ -113,7 +113,8 @@ fn set_step(session: &mut Session, sources: &[u8], step: Step) -> Answered
     }
 }
 
-// A finish without entry points into a part of the output.
+// A finish without entry points into a part of the output. A twin of entries_step: one function for both would take the finish as a closure, whose contract would
+// say again what each of the two finishes promises of session and output.
 fn plain_step(session: &mut Session, output: &mut [u8], step: Step) -> Answered
     requires { Valid session.old }
     ensures wrote { Wrote 13 step.a step.b step.c (meant session.old) result.refusal result.first result.second output.old output.new (meant session.new) }

@@ -5,13 +5,13 @@ use Rattle.std.proofs.Math.Path.{ap}
 use mathlib.Core.List.{List, ◌∷◌, ◌++◌}
 use Rattle.std.proofs.lemmas.List.Edits.{sets}
 use Rattle.base_words.specs.Words.{AllBelow, words_of}
-use Rattle.model.specs.Refusals.{done, refused, ringed, packed, answer_by}
+use Rattle.model.specs.Refusals.{done, refused, packed, answer_by}
 use Rattle.model.specs.Outcome.{Laid, laid, bad, strange}
 use Rattle.model.specs.Module.{Module, read, sized}
 use Rattle.model.specs.Intake.{verdict, intake_of, Passes}
 use Rattle.model.specs.Calls.{Call, Ring, Reaches, In, Sorted, Count, ordered}
 use Rattle.model.specs.Callees.{calls, order_of}
-use Rattle.model.specs.Image.{wuldgisp_intake, IntakeEnsures, order_image, order_answer, order_after, wuldgisp_order, OrderEnsures, redirect_image, redirect_answer, wuldgisp_redirect, RedirectEnsures, wuldgisp_link, LinkEnsures, wuldgisp_session, SessionEnsures}
+use Rattle.model.specs.Image.{wuldgisp_intake, IntakeEnsures, order_answer, order_after, wuldgisp_order, OrderEnsures, redirect_image, redirect_answer, wuldgisp_redirect, RedirectEnsures, wuldgisp_link, LinkEnsures, wuldgisp_session, SessionEnsures}
 use Rattle.model.specs.Session.{new}
 use Rattle.model.specs.Steps.{Said, run, answers_of, output_of, session}
 use Rattle.theory_sessions.specs.Steps.{Stepped, StepByStep}

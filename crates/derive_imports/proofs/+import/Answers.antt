@@ -5,7 +5,7 @@ use Rattle.derive_state.proofs.State.{arrays_same, arrays_then}
 use Rattle.derive_imports.proofs.Sources.{tape, small_number, readable, plain_name}
 use Rattle.derive_imports.proofs.Turns.{turn-known, turn-first}
 use Rattle.derive_imports.proofs.Importing.{word_in, past, number_in, lower, fails, goes_on, ends}
-use Rattle.derive_imports.proofs.+import.Goals.{then-r-lt-NOTHING+in_ok-e, else-r-lt-NOTHING}
+use Rattle.derive_imports.proofs.+import.Goals.{in-Some+in_ok-e, in_default}
 use Rattle.derive_imports.proofs.+import.Goals as goal
 
 pub bounds-derived-k : goal.bounds-derived-k
@@ -35,24 +35,23 @@ offset_bounds-source-j t c = omega (arith, word_in c.requires.source (c.requires
 pub import-requires : goal.import-requires
 import-requires t c =
     let R = c.requires in
-    let q = c.refers_to-r.ensures in
+    let q = c.in-Some.ensures in
     let inv = c.loop-j.invariant.0 in
-    let inside = number_in R.source (R.number_bound.0, R.number_bound.1, refl) R.valid_arrays c.if-derived-table-ne0.false c.record_at-at.ensures c.record_end-end.ensures inv c.loop-j-test.true q.0 c.if-r-lt-NOTHING.true q.1 in
-    let falls = lower R.source (R.number_bound.0, R.number_bound.1, refl) R.valid_arrays c.if-derived-table-ne0.false c.record_at-at.ensures c.record_end-end.ensures inv c.loop-j-test.true q.0 c.if-r-lt-NOTHING.true q.1 in
-    (rw (← c.decreases) falls, (R.source, ((c.if-r-lt-NOTHING.true, inside), inv.kept)))
+    let inside = number_in R.source (R.number_bound.0, R.number_bound.1, refl) R.valid_arrays c.if-derived-table-ne0.false c.record_at-at.ensures c.record_end-end.ensures inv c.loop-j-test.true q.0 q.2 q.1 in
+    let falls = lower R.source (R.number_bound.0, R.number_bound.1, refl) R.valid_arrays c.if-derived-table-ne0.false c.record_at-at.ensures c.record_end-end.ensures inv c.loop-j-test.true q.0 q.2 q.1 in
+    (rw (← c.decreases) falls, (R.source, ((q.2, inside), inv.kept)))
 
 pub returns-in_err-e : goal.returns-in_err-e
 returns-in_err-e t c =
-    let q = c.refers_to-r.ensures in
+    let q = c.in-Some.ensures in
     let p = err_from_is_err_and c.from_residual.result c.from_residual.ensures.1 in
-    rw (p.1, p.2) (record { does = fails c.requires.source (c.requires.number_bound.0, c.requires.number_bound.1, refl) c.requires.valid_arrays c.if-derived-table-ne0.false c.record_at-at.ensures c.record_end-end.ensures c.loop-j.invariant.0 c.loop-j-test.true q.0 c.if-r-lt-NOTHING.true q.1 c.in_err-e.ensures.does refl; same = arrays_then c.loop-j.invariant.1 c.in_err-e.ensures.same })
+    rw (p.1, p.2) (record { does = fails c.requires.source (c.requires.number_bound.0, c.requires.number_bound.1, refl) c.requires.valid_arrays c.if-derived-table-ne0.false c.record_at-at.ensures c.record_end-end.ensures c.loop-j.invariant.0 c.loop-j-test.true q.0 q.2 q.1 c.in_err-e.ensures.does refl; same = arrays_then c.loop-j.invariant.1 c.in_err-e.ensures.same })
 
 pub loop-j-preserved : goal.loop-j-preserved
 loop-j-preserved t c =
-    let q = c.refers_to-r.ensures in
-    elim c.if-r-lt-NOTHING.branch [
-      | then-r-lt-NOTHING+in_ok-e w ↦ rw (w.derived-is, w.e-is) ((goes_on c.requires.source (c.requires.number_bound.0, c.requires.number_bound.1, refl) c.requires.valid_arrays c.if-derived-table-ne0.false c.record_at-at.ensures c.record_end-end.ensures c.loop-j.invariant.0 c.loop-j-test.true q.0 w.if-r-lt-NOTHING.true q.1 w.in_ok-e.ensures.does refl), arrays_then c.loop-j.invariant.1 w.in_ok-e.ensures.same)
-      | else-r-lt-NOTHING w ↦ rw (w.derived-is, w.e-is) ((past c.requires.source (c.requires.number_bound.0, c.requires.number_bound.1, refl) c.requires.valid_arrays c.if-derived-table-ne0.false c.record_at-at.ensures c.record_end-end.ensures c.loop-j.invariant.0 c.loop-j-test.true q.0 w.if-r-lt-NOTHING.false), c.loop-j.invariant.1)
+    elim c.match-refers_to.branch [
+      | in-Some+in_ok-e w ↦ rw (w.derived-is, w.e-is) (let q = w.in-Some.ensures in (goes_on c.requires.source (c.requires.number_bound.0, c.requires.number_bound.1, refl) c.requires.valid_arrays c.if-derived-table-ne0.false c.record_at-at.ensures c.record_end-end.ensures c.loop-j.invariant.0 c.loop-j-test.true q.0 q.2 q.1 w.in_ok-e.ensures.does refl), arrays_then c.loop-j.invariant.1 w.in_ok-e.ensures.same)
+      | in_default w ↦ rw (w.derived-is, w.e-is) ((past c.requires.source (c.requires.number_bound.0, c.requires.number_bound.1, refl) c.requires.valid_arrays c.if-derived-table-ne0.false c.record_at-at.ensures c.record_end-end.ensures c.loop-j.invariant.0 c.loop-j-test.true refl w.in_default.ensures), c.loop-j.invariant.1)
     ]
 
 pub intern-requires-clause-readable : goal.intern-requires-clause-readable

@@ -6,7 +6,7 @@ use Rattle.derive_state.specs.Refers.{tab_of}
 use Rattle.derive_imports.proofs.Sources.{tape, small_number, count_few}
 use Rattle.derive_imports.proofs.Renames.{next_word, rename-known, rename_full, rename-first, rename_then, rename_settled, view_readable, view_count}
 use Rattle.derive_imports.proofs.Renaming.{word_in, past, number_in, fails, goes_on}
-use Rattle.derive_imports.proofs.rename_type.Goals.{then-r-lt-NOTHING+in_ok-e-2, else-r-lt-NOTHING}
+use Rattle.derive_imports.proofs.rename_type.Goals.{in-Some+in_ok-e-2, in_default}
 use Rattle.derive_imports.proofs.rename_type.Goals as goal
 
 pub bounds-derived-k : goal.bounds-derived-k
@@ -43,25 +43,24 @@ bounds-source-j-in-loop-j c = word_in c.requires.source c.requires.h_bound.0 c.r
 pub offset_bounds-source-j : goal.offset_bounds-source-j
 offset_bounds-source-j c = omega (arith, word_in c.requires.source c.requires.h_bound.0 c.requires.h_bound.1 c.record_at-at.ensures c.record_end-end.ensures refl (c.in_ok-e.ensures.does.kept refl) c.loop-j.invariant.0 c.loop-j-test.true)
 
-pub import-requires-then-r-lt-NOTHING : goal.import-requires-then-r-lt-NOTHING
-import-requires-then-r-lt-NOTHING c =
-    let q = c.refers_to-r.ensures in
-    let inside = number_in c.requires.source c.requires.h_bound.0 c.requires.h_bound.1 c.record_at-at.ensures c.record_end-end.ensures refl (c.in_ok-e.ensures.does.kept refl) c.loop-j.invariant.0 c.loop-j-test.true q.0 c.if-r-lt-NOTHING.true q.1 in
-    record { source = c.requires.source; number_bound = (c.if-r-lt-NOTHING.true, inside); valid_arrays = c.loop-j.invariant.0.kept }
+pub import-requires-in-Some : goal.import-requires-in-Some
+import-requires-in-Some c =
+    let q = c.in-Some.ensures in
+    let inside = number_in c.requires.source c.requires.h_bound.0 c.requires.h_bound.1 c.record_at-at.ensures c.record_end-end.ensures refl (c.in_ok-e.ensures.does.kept refl) c.loop-j.invariant.0 c.loop-j-test.true q.0 q.2 q.1 in
+    record { source = c.requires.source; number_bound = (q.2, inside); valid_arrays = c.loop-j.invariant.0.kept }
 
 pub returns-in_err-e-2 : goal.returns-in_err-e-2
 unfolding tab_of
 returns-in_err-e-2 c =
-    let q = c.refers_to-r.ensures in
+    let q = c.in-Some.ensures in
     let p = err_from_is_err_and c.from_residual-in_err-e-2.result c.from_residual-in_err-e-2.ensures.1 in
-    rw (p.1, p.2) (record { does = rename_then _ _ _ c.requires.source c.args.source.offset c.args.h.0 c.requires.h_bound.0 c.args.name c.requires.h_bound.1 c.record_at-at.result c.record_end-end.result c.record_at-at.ensures c.record_end-end.ensures _ _ _ _ _ _ refl c.requires.valid_arrays c.if-derived-k-ne0.false _ _ _ _ _ _ c.in_ok-e.ensures.does refl _ _ _ _ _ _ (fails c.requires.source c.requires.h_bound.0 c.requires.h_bound.1 c.record_at-at.ensures c.record_end-end.ensures refl (c.in_ok-e.ensures.does.kept refl) c.loop-j.invariant.0 c.loop-j-test.true q.0 c.if-r-lt-NOTHING.true q.1 c.in_err-e-2.ensures.does refl); same = arrays_then c.in_ok-e.ensures.same (arrays_then c.loop-j.invariant.1 c.in_err-e-2.ensures.same) })
+    rw (p.1, p.2) (record { does = rename_then _ _ _ c.requires.source c.args.source.offset c.args.h.0 c.requires.h_bound.0 c.args.name c.requires.h_bound.1 c.record_at-at.result c.record_end-end.result c.record_at-at.ensures c.record_end-end.ensures _ _ _ _ _ _ refl c.requires.valid_arrays c.if-derived-k-ne0.false _ _ _ _ _ _ c.in_ok-e.ensures.does refl _ _ _ _ _ _ (fails c.requires.source c.requires.h_bound.0 c.requires.h_bound.1 c.record_at-at.ensures c.record_end-end.ensures refl (c.in_ok-e.ensures.does.kept refl) c.loop-j.invariant.0 c.loop-j-test.true q.0 q.2 q.1 c.in_err-e-2.ensures.does refl); same = arrays_then c.in_ok-e.ensures.same (arrays_then c.loop-j.invariant.1 c.in_err-e-2.ensures.same) })
 
 pub loop-j-preserved : goal.loop-j-preserved
 loop-j-preserved c =
-    let q = c.refers_to-r.ensures in
-    elim c.if-r-lt-NOTHING.branch [
-      | then-r-lt-NOTHING+in_ok-e-2 w ↦ rw (w.derived-is, w.e-is) ((goes_on c.requires.source c.requires.h_bound.0 c.requires.h_bound.1 c.record_at-at.ensures c.record_end-end.ensures refl (c.in_ok-e.ensures.does.kept refl) c.loop-j.invariant.0 c.loop-j-test.true q.0 w.if-r-lt-NOTHING.true q.1 w.in_ok-e-2.ensures.does refl), arrays_then c.loop-j.invariant.1 w.in_ok-e-2.ensures.same)
-      | else-r-lt-NOTHING w ↦ rw (w.derived-is, w.e-is) ((past c.requires.source c.requires.h_bound.0 c.requires.h_bound.1 c.record_at-at.ensures c.record_end-end.ensures refl (c.in_ok-e.ensures.does.kept refl) c.loop-j.invariant.0 c.loop-j-test.true q.0 w.if-r-lt-NOTHING.false), c.loop-j.invariant.1)
+    elim c.match-refers_to.branch [
+      | in-Some+in_ok-e-2 w ↦ rw (w.derived-is, w.e-is) (let q = w.in-Some.ensures in (goes_on c.requires.source c.requires.h_bound.0 c.requires.h_bound.1 c.record_at-at.ensures c.record_end-end.ensures refl (c.in_ok-e.ensures.does.kept refl) c.loop-j.invariant.0 c.loop-j-test.true q.0 q.2 q.1 w.in_ok-e-2.ensures.does refl), arrays_then c.loop-j.invariant.1 w.in_ok-e-2.ensures.same)
+      | in_default w ↦ rw (w.derived-is, w.e-is) ((past c.requires.source c.requires.h_bound.0 c.requires.h_bound.1 c.record_at-at.ensures c.record_end-end.ensures refl (c.in_ok-e.ensures.does.kept refl) c.loop-j.invariant.0 c.loop-j-test.true refl w.in_default.ensures), c.loop-j.invariant.1)
     ]
 
 pub overflow_add-view : goal.overflow_add-view

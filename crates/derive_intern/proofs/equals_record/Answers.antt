@@ -10,8 +10,8 @@ use Rattle.derive_state.proofs.Unlike.{last_small, last_not}
 use Rattle.derive_intern.proofs.equals_record.Goals.{then-n-eq0, else-n-eq0+then-derived-s, else-n-eq0+else-derived-s}
 use Rattle.derive_intern.proofs.equals_record.Goals as goal
 
-pub carried-requires-clause-all : goal.carried-requires-clause-all
-carried-requires-clause-all c = let a = c.args in let some = c.if-n-eq0.false in last_small a.image.words.now a.image.tags.now a.derived.now.log.now a.derived.now.logtags.now (went_r a.derived.now.maps.now) a.at a.end a.s c.requires.readable.stretch c.requires.s_bound.0 c.requires.s_bound.1 c.requires.s_bound.2 (omega arith) c.requires.readable.small
+pub carried-requires : goal.carried-requires
+carried-requires c = record { all = let a = c.args in let some = c.if-n-eq0.false in last_small a.image.words.now a.image.tags.now a.derived.now.log.now a.derived.now.logtags.now (went_r a.derived.now.maps.now) a.at a.end a.s c.requires.readable.stretch c.requires.s_bound.0 c.requires.s_bound.1 c.requires.s_bound.2 (omega arith) c.requires.readable.small }
 
 pub returns-else-may_equal : goal.returns-else-may_equal
 returns-else-may_equal c =

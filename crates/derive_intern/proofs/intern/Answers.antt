@@ -6,7 +6,7 @@ use Rattle.derive_state.specs.Sizes.{going}
 use Rattle.derive_intern.proofs.intern.Goals as goal
 
 pub bucket_of-p-requires : goal.bucket_of-p-requires
-bucket_of-p-requires c = let a = c.args in let R = c.requires.readable in let q = c.requires.t_bound in let K = c.requires.valid_arrays in let f = K.few a.t (let z = q.0 in omega arith) in let z = q.0 in record { readable = R; t_bound = (omega arith, K.maps-six) }
+bucket_of-p-requires c = let a = c.args in let R = c.requires.readable in let q = c.requires.t_bound in let K = c.requires.valid_arrays in let f = K.few a.t (let z = q.0 in omega arith) in let z = q.0 in record { readable = R; t_bound = omega arith }
 
 pub find_by_bucket-found-requires : goal.find_by_bucket-found-requires
 find_by_bucket-found-requires c = let a = c.args in let R = c.requires.readable in let q = c.requires.t_bound in let K = c.requires.valid_arrays in let f = K.few a.t (let z = q.0 in omega arith) in let v = c.view.ensures in record { readable = R; t_bound = (q.0, rw v.3 c.bucket_of-p.ensures.0, c.bucket_of-p.ensures.1); valid_arrays = rw (v.0, v.1, v.2, v.3, v.4, v.5) K }
@@ -24,7 +24,7 @@ pub returns-then-words_left-end : goal.returns-then-words_left-end
 returns-then-words_left-end c = let a = c.args in let R = c.requires.readable in let q = c.requires.t_bound in let K = c.requires.valid_arrays in let f = K.few a.t (let z = q.0 in omega arith) in let v = c.view.ensures in record { does = settle_long a.source.image.words.now a.source.image.tags.now a.derived.now.log.now a.derived.now.logtags.now a.derived.now.starts.now a.derived.now.maps.now a.derived.now.buckets.now (going a.ends) refl K a.t a.k a.at a.end a.source.offset q.0 q.1 q.2 R.stretch c.requires.nameless _ (rw (v.0, v.1, v.2, v.3, v.5) at c.in_default.ensures) (omega arith) _ c.words_left.ensures c.if-words_left-end.true _ refl; same = record { log_same = refl; logtags_same = refl; starts_same = refl; maps_same = refl; buckets_same = refl } }
 
 pub write-requires : goal.write-requires
-write-requires c = let a = c.args in let R = c.requires.readable in let q = c.requires.t_bound in let K = c.requires.valid_arrays in let f = K.few a.t (let z = q.0 in omega arith) in let v = c.view.ensures in let z = c.if-words_left-end.false in let y = c.words_left.ensures in record { readable = R; at_bound = (omega arith, length-set a.derived.now.log.now a.ends.loglen _ ∙ K.log_long, K.tags_long, K.maps-six) }
+write-requires c = let a = c.args in let R = c.requires.readable in let q = c.requires.t_bound in let K = c.requires.valid_arrays in let f = K.few a.t (let z = q.0 in omega arith) in let v = c.view.ensures in let z = c.if-words_left-end.false in let y = c.words_left.ensures in record { readable = R; at_bound = (omega arith, length-set a.derived.now.log.now a.ends.loglen _ ∙ K.log_long, K.tags_long) }
 
 pub set_bucket-requires : goal.set_bucket-requires
 set_bucket-requires c = let a = c.args in let R = c.requires.readable in let q = c.requires.t_bound in let K = c.requires.valid_arrays in let f = K.few a.t (let z = q.0 in omega arith) in let v = c.view.ensures in let z = c.if-n-eq512.false in (c.bucket_of-p.ensures.1, omega arith, K.marks_long)

@@ -2,19 +2,22 @@ use mathlib.Core.Path.{refl}
 use native.Mathlib.Omega.{arith}
 use borrow.Author.Tests.{tests}
 use Prim.Native.Nat.{◌≤◌}
-use lib.ListN.{length}
+use lib.ListN.{length, get_or}
 use Rattle.std.proofs.Common.{rules}
 use Rattle.std.proofs.lemmas.Iterator.{YieldsList-from_range}
 use Rattle.std.proofs.lemmas.Iterator.Search.{find_from_yields_List}
 use Rattle.model.specs.Between.{between}
+use Rattle.derive_state.specs.Held.{row}
 use Rattle.derive_lookup.proofs.Seeking.{is_alike, first_is}
 use Rattle.derive_lookup.proofs.find_name.Goals as goal
 
 pub returns : goal.returns
 returns c =
     let a = c.args in
+    let n = get_or a.derived.now.sizes.counts 0 0 in
+    let starts = row a.derived.now.starts.now 0 in
     let names = c.requires.names in
-    let within : a.n ≤ length a.starts.now = rw names.starts_long names.few in
+    let within : n ≤ length starts = rw names.starts_long names.few in
     let cells = between a.image.tags.now a.image.words.now a.at a.end in
-    let first = first_is a.log.now a.logtags.now a.starts.now cells a.n within c.find.result (find_from_yields_List (is_alike a.log.now a.logtags.now a.starts.now cells a.n within) _ _ c.find.result c.find.ensures.ran (YieldsList-from_range 0 a.n a.n refl (omega arith)) (λ x b q k. search (rules, tests))) in
+    let first = first_is a.derived.now.log.now a.derived.now.logtags.now starts cells n within c.find.result (find_from_yields_List (is_alike a.derived.now.log.now a.derived.now.logtags.now starts cells n within) _ _ c.find.result c.find.ensures.ran (YieldsList-from_range 0 n n refl (omega arith)) (λ x b q k. search (rules, tests))) in
     rw c.unwrap_or.ensures (first.0, omega (arith, first.1, names.few))

@@ -13,7 +13,7 @@ pub loop-j-init : goal.loop-j-init
 loop-j-init c = let a = c.args in let z : a.s + 1 + (a.at - a.at) ≡ a.s + 1 = omega arith in rw z (compare-begin a.image.words.now a.image.tags.now a.derived.now.log.now a.derived.now.logtags.now (went_r a.derived.now.maps.now) a.at a.end a.s c.requires.readable.stretch c.requires.readable.small c.requires.s_bound.0 c.requires.s_bound.1 c.requires.s_bound.2 _ refl c.if-derived-s.false)
 
 pub carried-y-requires : goal.carried-y-requires
-carried-y-requires c = let a = c.args in let l = c.loop-j in let h = c.loop-j-test.true in record { all = compare_small a.image.words.now a.image.tags.now a.derived.now.log.now a.derived.now.logtags.now (went_r a.derived.now.maps.now) a.at a.end a.s c.requires.readable.stretch c.requires.readable.small c.requires.s_bound.0 c.requires.s_bound.1 c.requires.s_bound.2 l.j _ l.invariant h; maps_len = c.requires.s_bound.3 }
+carried-y-requires c = let a = c.args in let l = c.loop-j in let h = c.loop-j-test.true in record { all = compare_small a.image.words.now a.image.tags.now a.derived.now.log.now a.derived.now.logtags.now (went_r a.derived.now.maps.now) a.at a.end a.s c.requires.readable.stretch c.requires.readable.small c.requires.s_bound.0 c.requires.s_bound.1 c.requires.s_bound.2 l.j _ l.invariant h }
 
 pub bounds-derived-q : goal.bounds-derived-q
 bounds-derived-q c = let a = c.args in let l = c.loop-j in let h = c.loop-j-test.true in compare_in a.image.words.now a.image.tags.now a.derived.now.log.now a.derived.now.logtags.now (went_r a.derived.now.maps.now) a.at a.end a.s c.requires.readable.stretch c.requires.readable.small c.requires.s_bound.0 c.requires.s_bound.1 c.requires.s_bound.2 l.j _ l.invariant h

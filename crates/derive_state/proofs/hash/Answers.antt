@@ -3,10 +3,10 @@ use Rattle.derive_state.proofs.Passes.{hash-begin, hash_done, hash_small, hash-n
 use Rattle.derive_state.proofs.hash.Goals as goal
 
 pub loop-j-init : goal.loop-j-init
-loop-j-init c = let a = c.args in hash-begin a.image.words.now a.image.tags.now target_bytes (went_r a.maps.now) a.at a.end a.t c.requires.readable c.requires.t_bound.0
+loop-j-init c = let a = c.args in hash-begin a.image.words.now a.image.tags.now target_bytes (went_r a.maps.now) a.at a.end a.t c.requires.readable c.requires.t_bound
 
 pub carried-requires : goal.carried-requires
-carried-requires c = let a = c.args in let l = c.loop-j in let h = c.loop-j-test.true in record { all = hash_small a.image.words.now a.image.tags.now target_bytes (went_r a.maps.now) a.at a.end a.t l.h l.j l.invariant h; maps_len = c.requires.t_bound.1 }
+carried-requires c = let a = c.args in let l = c.loop-j in let h = c.loop-j-test.true in record { all = hash_small a.image.words.now a.image.tags.now target_bytes (went_r a.maps.now) a.at a.end a.t l.h l.j l.invariant h }
 
 pub mix-h-requires : goal.mix-h-requires
 mix-h-requires c = c.loop-j.invariant.small

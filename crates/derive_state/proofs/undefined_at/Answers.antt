@@ -5,8 +5,8 @@ use Rattle.derive_state.proofs.Classes.{undefined-other, undefined_no, undefined
 use Rattle.derive_state.proofs.Passes.{all_here, following_some, following_none}
 use Rattle.derive_state.proofs.undefined_at.Goals as goal
 
-pub carried-requires-clause-all : goal.carried-requires-clause-all
-carried-requires-clause-all c = let a = c.args in all_here a.image.tags.now a.image.words.now a.i a.end c.if-end-i.false c.requires.readable.stretch.in_tags c.requires.readable.stretch.in_words Small c.requires.readable.small
+pub carried-requires : goal.carried-requires
+carried-requires c = record { all = let a = c.args in all_here a.image.tags.now a.image.words.now a.i a.end c.if-end-i.false c.requires.readable.stretch.in_tags c.requires.readable.stretch.in_words Small c.requires.readable.small }
 
 pub returns-then-end-i : goal.returns-then-end-i
 returns-then-end-i c = let a = c.args in le-leb a.end a.i c.if-end-i.true ∙ undefined-none a.s a.w _ a.u c.if-s-eq-SPAN.true c.if-w-eq0.true (following_none (went_r a.maps.now) a.image.tags.now a.image.words.now a.i a.end c.if-end-i.true)

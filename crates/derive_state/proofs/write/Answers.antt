@@ -8,10 +8,10 @@ pub loop-j-init : goal.loop-j-init
 loop-j-init c = let a = c.args in let z : a.to + (a.at - a.at) ≡ a.to = omega arith in rw z (write-begin Small a.source.image.words.now a.source.image.tags.now (went_r a.maps.now) a.at a.end a.to a.source.offset a.log.now a.logtags.now c.requires.readable.stretch c.requires.readable.small c.requires.at_bound.0 c.requires.at_bound.1 c.requires.at_bound.2)
 
 pub carried-w-requires : goal.carried-w-requires
-carried-w-requires c = let a = c.args in let l = c.loop-j in let h = c.loop-j-test.true in record { all = write_good Small a.source.image.words.now a.source.image.tags.now (went_r a.maps.now) a.at a.end a.to a.source.offset a.log.now a.logtags.now c.requires.readable.stretch c.requires.readable.small c.requires.at_bound.0 c.requires.at_bound.1 c.requires.at_bound.2 l.log l.logtags l.j _ l.u l.invariant h; maps_len = c.requires.at_bound.3 }
+carried-w-requires c = let a = c.args in let l = c.loop-j in let h = c.loop-j-test.true in record { all = write_good Small a.source.image.words.now a.source.image.tags.now (went_r a.maps.now) a.at a.end a.to a.source.offset a.log.now a.logtags.now c.requires.readable.stretch c.requires.readable.small c.requires.at_bound.0 c.requires.at_bound.1 c.requires.at_bound.2 l.log l.logtags l.j _ l.u l.invariant h }
 
 pub undefined_at-u-requires : goal.undefined_at-u-requires
-undefined_at-u-requires c = let a = c.args in let l = c.loop-j in let h = c.loop-j-test.true in record { readable = record { stretch = write_stretch Small a.source.image.words.now a.source.image.tags.now (went_r a.maps.now) a.at a.end a.to a.source.offset a.log.now a.logtags.now c.requires.readable.stretch c.requires.readable.small c.requires.at_bound.0 c.requires.at_bound.1 c.requires.at_bound.2 l.log l.logtags l.j _ l.u l.invariant h; words_long = c.requires.readable.words_long; tags_long = c.requires.readable.tags_long; small = write-rest Small a.source.image.words.now a.source.image.tags.now (went_r a.maps.now) a.at a.end a.to a.source.offset a.log.now a.logtags.now c.requires.readable.stretch c.requires.readable.small c.requires.at_bound.0 c.requires.at_bound.1 c.requires.at_bound.2 l.log l.logtags l.j _ l.u l.invariant h; targets_are = c.requires.readable.targets_are }; maps_len = c.requires.at_bound.3 }
+undefined_at-u-requires c = let a = c.args in let l = c.loop-j in let h = c.loop-j-test.true in record { readable = record { stretch = write_stretch Small a.source.image.words.now a.source.image.tags.now (went_r a.maps.now) a.at a.end a.to a.source.offset a.log.now a.logtags.now c.requires.readable.stretch c.requires.readable.small c.requires.at_bound.0 c.requires.at_bound.1 c.requires.at_bound.2 l.log l.logtags l.j _ l.u l.invariant h; words_long = c.requires.readable.words_long; tags_long = c.requires.readable.tags_long; small = write-rest Small a.source.image.words.now a.source.image.tags.now (went_r a.maps.now) a.at a.end a.to a.source.offset a.log.now a.logtags.now c.requires.readable.stretch c.requires.readable.small c.requires.at_bound.0 c.requires.at_bound.1 c.requires.at_bound.2 l.log l.logtags l.j _ l.u l.invariant h; targets_are = c.requires.readable.targets_are } }
 
 pub loop-j-preserved : goal.loop-j-preserved
 loop-j-preserved c = let a = c.args in let l = c.loop-j in let h = c.loop-j-test.true in let z : a.to + (l.j + 1 - a.at) ≡ a.to + (l.j - a.at) + 1 = omega arith in rw z (write-next Small a.source.image.words.now a.source.image.tags.now (went_r a.maps.now) a.at a.end a.to a.source.offset a.log.now a.logtags.now c.requires.readable.stretch c.requires.readable.small c.requires.at_bound.0 c.requires.at_bound.1 c.requires.at_bound.2 l.log l.logtags l.j _ l.u l.invariant h _ c.carried-w.ensures _ c.undefined_at-u.ensures _ c.moved.ensures)

@@ -12,7 +12,7 @@ pub returns-then-exprtop-end : goal.returns-then-exprtop-end
 returns-then-exprtop-end c = let a = c.args in append_full a.source.image.words.now a.source.image.tags.now a.expressions.places.now a.source.image.n a.expressions.count c.requires.expressions a.derived.now.log.now a.derived.now.logtags.now a.derived.now.starts.now a.derived.now.maps.now a.exprmap.now a.stacks.now (going a.derived.now.sizes) a.source.offset a.expressions.base a.e c.requires.e_lt_k refl c.requires.under _ _ refl refl _ refl c.if-exprtop-end.true
 
 pub write-requires : goal.write-requires
-write-requires c = let r = room c.requires.expressions c.requires.e_lt_k refl refl c.requires.under c.if-exprtop-end.false in record { ground = c.requires.ground; bearing = c.requires.bearing; maps_len = c.requires.maps_len; legible = legible c.requires.expressions c.requires.e_lt_k refl refl; stacks = (c.requires.under.stacks_are, r.fits) }
+write-requires c = let r = room c.requires.expressions c.requires.e_lt_k refl refl c.requires.under c.if-exprtop-end.false in record { ground = c.requires.ground; bearing = c.requires.bearing; legible = legible c.requires.expressions c.requires.e_lt_k refl refl; stacks = (c.requires.under.stacks_are, r.fits) }
 
 pub overflow_add-stacks : goal.overflow_add-stacks
 overflow_add-stacks c = let r = room c.requires.expressions c.requires.e_lt_k refl refl c.requires.under c.if-exprtop-end.false in omega arith

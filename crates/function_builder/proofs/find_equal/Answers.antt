@@ -21,7 +21,7 @@ pub bounds-image-p-2 : goal.bounds-image-p-2
 bounds-image-p-2 c = let a = c.args in let q = c.requires.stacks in let z = c.requires.legible.stretch.small in let h = q.3 in omega arith
 
 pub carried-y-requires : goal.carried-y-requires
-carried-y-requires c = let a = c.args in let q = c.requires.stacks in let h = q.3 in record { ground = c.requires.ground; bearing = c.requires.bearing; maps_len = c.requires.maps_len; all = sieve_fits a.image.words.now a.image.tags.now (went_of a.image.words.now a.image.n a.derived.now.log.now a.derived.now.logtags.now a.derived.now.starts.now a.derived.now.maps.now (going a.derived.now.sizes) a.exprmap.now) a.at a.end a.stacks.now a.e1 (going a.derived.now.sizes) c.requires.legible q.0 q.1 q.2 (a.end - 1) (omega arith) (omega arith) }
+carried-y-requires c = let a = c.args in let q = c.requires.stacks in let h = q.3 in record { ground = c.requires.ground; bearing = c.requires.bearing; all = sieve_fits a.image.words.now a.image.tags.now (went_of a.image.words.now a.image.n a.derived.now.log.now a.derived.now.logtags.now a.derived.now.starts.now a.derived.now.maps.now (going a.derived.now.sizes) a.exprmap.now) a.at a.end a.stacks.now a.e1 (going a.derived.now.sizes) c.requires.legible q.0 q.1 q.2 (a.end - 1) (omega arith) (omega arith) }
 
 pub loop-k-init : goal.loop-k-init
 loop-k-init c = let a = c.args in let q = c.requires.stacks in sieve_first a.image.words.now a.image.tags.now (went_of a.image.words.now a.image.n a.derived.now.log.now a.derived.now.logtags.now a.derived.now.starts.now a.derived.now.maps.now (going a.derived.now.sizes) a.exprmap.now) a.at a.end a.stacks.now a.e1 (going a.derived.now.sizes) c.requires.legible q.0 q.1 q.2 q.3 _ c.carried-y.ensures
@@ -60,7 +60,7 @@ pub overflow_sub-end : goal.overflow_sub-end
 overflow_sub-end c = let a = c.args in let q = c.requires.stacks in let h = q.3 in omega arith
 
 pub first_difference-requires : goal.first_difference-requires
-first_difference-requires c = let a = c.args in let q = c.requires.stacks in let l = c.loop-k in let g = sieve_hop a.image.words.now a.image.tags.now (went_of a.image.words.now a.image.n a.derived.now.log.now a.derived.now.logtags.now a.derived.now.starts.now a.derived.now.maps.now (going a.derived.now.sizes) a.exprmap.now) a.at a.end a.stacks.now a.e1 (going a.derived.now.sizes) c.requires.legible q.0 q.1 q.2 l.p l.y l.k _ c.in_ok-j.ensures.1 l.invariant in let h = c.in_ok-j.ensures.0 in let z = sieve_within a.image.words.now a.image.tags.now (went_of a.image.words.now a.image.n a.derived.now.log.now a.derived.now.logtags.now a.derived.now.starts.now a.derived.now.maps.now (going a.derived.now.sizes) a.exprmap.now) a.at a.end a.stacks.now a.e1 (going a.derived.now.sizes) c.requires.legible q.0 q.1 q.2 _ l.p l.y g h _ _ refl c.expr_end-b.ensures in record { ground = c.requires.ground; bearing = c.requires.bearing; maps_len = c.requires.maps_len; legible = c.requires.legible; stacks = (q.0, le_of_lt z.0, z.1, c.if-b-a.true) }
+first_difference-requires c = let a = c.args in let q = c.requires.stacks in let l = c.loop-k in let g = sieve_hop a.image.words.now a.image.tags.now (went_of a.image.words.now a.image.n a.derived.now.log.now a.derived.now.logtags.now a.derived.now.starts.now a.derived.now.maps.now (going a.derived.now.sizes) a.exprmap.now) a.at a.end a.stacks.now a.e1 (going a.derived.now.sizes) c.requires.legible q.0 q.1 q.2 l.p l.y l.k _ c.in_ok-j.ensures.1 l.invariant in let h = c.in_ok-j.ensures.0 in let z = sieve_within a.image.words.now a.image.tags.now (went_of a.image.words.now a.image.n a.derived.now.log.now a.derived.now.logtags.now a.derived.now.starts.now a.derived.now.maps.now (going a.derived.now.sizes) a.exprmap.now) a.at a.end a.stacks.now a.e1 (going a.derived.now.sizes) c.requires.legible q.0 q.1 q.2 _ l.p l.y g h _ _ refl c.expr_end-b.ensures in record { ground = c.requires.ground; bearing = c.requires.bearing; legible = c.requires.legible; stacks = (q.0, le_of_lt z.0, z.1, c.if-b-a.true) }
 
 pub returns-in_default : goal.returns-in_default
 returns-in_default c = let a = c.args in let q = c.requires.stacks in let l = c.loop-k in let g = sieve_hop a.image.words.now a.image.tags.now (went_of a.image.words.now a.image.n a.derived.now.log.now a.derived.now.logtags.now a.derived.now.starts.now a.derived.now.maps.now (going a.derived.now.sizes) a.exprmap.now) a.at a.end a.stacks.now a.e1 (going a.derived.now.sizes) c.requires.legible q.0 q.1 q.2 l.p l.y l.k _ c.in_ok-j.ensures.1 l.invariant in let h = c.in_ok-j.ensures.0 in (h, sieve_found a.image.words.now a.image.tags.now (went_of a.image.words.now a.image.n a.derived.now.log.now a.derived.now.logtags.now a.derived.now.starts.now a.derived.now.maps.now (going a.derived.now.sizes) a.exprmap.now) a.at a.end a.stacks.now a.e1 (going a.derived.now.sizes) c.requires.legible q.0 q.1 q.2 _ l.p l.y g h _ _ refl c.expr_end-b.ensures c.in_default.ensures)
@@ -75,7 +75,7 @@ pub bounds-image-p-then-b-a-2 : goal.bounds-image-p-then-b-a-2
 bounds-image-p-then-b-a-2 c = let a = c.args in let q = c.requires.stacks in let x = c.in-Some.ensures in let h = x.1 in let z = c.requires.legible.stretch.small in omega arith
 
 pub carried-y-requires-then-b-a : goal.carried-y-requires-then-b-a
-carried-y-requires-then-b-a c = let a = c.args in let q = c.requires.stacks in let x = c.in-Some.ensures in let h = x.1 in let z = c.requires.legible.stretch.small in record { ground = c.requires.ground; bearing = c.requires.bearing; maps_len = c.requires.maps_len; all = sieve_fits a.image.words.now a.image.tags.now (went_of a.image.words.now a.image.n a.derived.now.log.now a.derived.now.logtags.now a.derived.now.starts.now a.derived.now.maps.now (going a.derived.now.sizes) a.exprmap.now) a.at a.end a.stacks.now a.e1 (going a.derived.now.sizes) c.requires.legible q.0 q.1 q.2 _ x.0 x.1 }
+carried-y-requires-then-b-a c = let a = c.args in let q = c.requires.stacks in let x = c.in-Some.ensures in let h = x.1 in let z = c.requires.legible.stretch.small in record { ground = c.requires.ground; bearing = c.requires.bearing; all = sieve_fits a.image.words.now a.image.tags.now (went_of a.image.words.now a.image.n a.derived.now.log.now a.derived.now.logtags.now a.derived.now.starts.now a.derived.now.maps.now (going a.derived.now.sizes) a.exprmap.now) a.at a.end a.stacks.now a.e1 (going a.derived.now.sizes) c.requires.legible q.0 q.1 q.2 _ x.0 x.1 }
 
 pub loop-k-smaller-then-b-a : goal.loop-k-smaller-then-b-a
 loop-k-smaller-then-b-a c = let h = c.in_ok-j.ensures.1.low in let t = c.loop-k-test.true in omega arith

@@ -27,7 +27,7 @@ pub bounds-image-j-in-loop-j : goal.bounds-image-j-in-loop-j
 bounds-image-j-in-loop-j c = let a = c.args in let L = c.requires.legible in let q = c.requires.stacks in let l = c.loop-j in let z = L.stretch.small in let t = c.loop-j-test.true in omega arith
 
 pub carried-y-requires : goal.carried-y-requires
-carried-y-requires c = let a = c.args in let L = c.requires.legible in let q = c.requires.stacks in let l = c.loop-j in record { ground = c.requires.ground; bearing = c.requires.bearing; maps_len = c.requires.maps_len; all = compares_good (FitN a.image.words.now 1024) a.image.words.now a.image.tags.now (get_or a.stacks.now 0 []) (get_or a.stacks.now 1 []) (went_of a.image.words.now a.image.n a.derived.now.log.now a.derived.now.logtags.now a.derived.now.starts.now a.derived.now.maps.now (going a.derived.now.sizes) a.exprmap.now) a.at a.end a.a a.b L.stretch L.fits q.1 q.2 (q.0.rows 0 (omega arith)) (q.0.rows 1 (omega arith)) l.j (a.a + (l.j - a.at)) l.invariant.0 c.loop-j-test.true }
+carried-y-requires c = let a = c.args in let L = c.requires.legible in let q = c.requires.stacks in let l = c.loop-j in record { ground = c.requires.ground; bearing = c.requires.bearing; all = compares_good (FitN a.image.words.now 1024) a.image.words.now a.image.tags.now (get_or a.stacks.now 0 []) (get_or a.stacks.now 1 []) (went_of a.image.words.now a.image.n a.derived.now.log.now a.derived.now.logtags.now a.derived.now.starts.now a.derived.now.maps.now (going a.derived.now.sizes) a.exprmap.now) a.at a.end a.a a.b L.stretch L.fits q.1 q.2 (q.0.rows 0 (omega arith)) (q.0.rows 1 (omega arith)) l.j (a.a + (l.j - a.at)) l.invariant.0 c.loop-j-test.true }
 
 pub offset_bounds-stacks-q : goal.offset_bounds-stacks-q
 offset_bounds-stacks-q c = let a = c.args in let L = c.requires.legible in let q = c.requires.stacks in let l = c.loop-j in let z = compares_in (FitN a.image.words.now 1024) a.image.words.now a.image.tags.now (get_or a.stacks.now 0 []) (get_or a.stacks.now 1 []) (went_of a.image.words.now a.image.n a.derived.now.log.now a.derived.now.logtags.now a.derived.now.starts.now a.derived.now.maps.now (going a.derived.now.sizes) a.exprmap.now) a.at a.end a.a a.b L.stretch L.fits q.1 q.2 (q.0.rows 0 (omega arith)) (q.0.rows 1 (omega arith)) l.j (a.a + (l.j - a.at)) l.invariant.0 c.loop-j-test.true in omega arith

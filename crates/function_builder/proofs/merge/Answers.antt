@@ -8,7 +8,7 @@ use Rattle.derive_state.specs.Sizes.{going}
 use Rattle.function_builder.proofs.merge.Goals as goal
 
 pub find_equal-requires : goal.find_equal-requires
-find_equal-requires c = let U = c.requires.under in record { ground = c.requires.ground; bearing = c.requires.bearing; maps_len = c.requires.maps_len; legible = legible c.requires.expressions c.requires.e_lt_k refl refl; stacks = (U.stacks_are, U.rising, U.made_is, (rises c.requires.expressions c.requires.e_lt_k refl refl).0) }
+find_equal-requires c = let U = c.requires.under in record { ground = c.requires.ground; bearing = c.requires.bearing; legible = legible c.requires.expressions c.requires.e_lt_k refl refl; stacks = (U.stacks_are, U.rising, U.made_is, (rises c.requires.expressions c.requires.e_lt_k refl refl).0) }
 
 pub overflow_add-exprmap : goal.overflow_add-exprmap
 overflow_add-exprmap c = let U = c.requires.under in let t = U.stacks_are.high in let l = made_low U in let y = c.in-Some.ensures.0 in omega arith

@@ -13,7 +13,7 @@ pub returns-else-w-eq0 : goal.returns-else-w-eq0
 returns-else-w-eq0 c = let a = c.args in rw (ne_eqb a.w 0 c.if-w-eq0.false) (undefined_no a.s a.w _ a.u c.if-s-ne-SPAN.false c.if-w-eq0.false)
 
 pub carried-requires : goal.carried-requires
-carried-requires c = let a = c.args in let L = c.requires.legible in record { ground = c.requires.ground; bearing = c.requires.bearing; maps_len = c.requires.maps_len; all = all_here a.image.tags.now a.image.words.now a.i a.end c.if-end-i.false L.stretch.in_tags L.stretch.in_words (FitN a.image.words.now 1024) L.fits }
+carried-requires c = let a = c.args in let L = c.requires.legible in record { ground = c.requires.ground; bearing = c.requires.bearing; all = all_here a.image.tags.now a.image.words.now a.i a.end c.if-end-i.false L.stretch.in_tags L.stretch.in_words (FitN a.image.words.now 1024) L.fits }
 
 pub returns-else-end-i : goal.returns-else-end-i
 returns-else-end-i c = let a = c.args in let L = c.requires.legible in undefined-next a.s a.w _ a.u c.if-s-ne-SPAN.false c.if-w-eq0.true _ (following_some (went_of a.image.words.now a.image.n a.derived.now.log.now a.derived.now.logtags.now a.derived.now.starts.now a.derived.now.maps.now (going a.derived.now.sizes) a.exprmap.now) a.image.tags.now a.image.words.now a.i a.end c.if-end-i.false L.stretch.in_tags L.stretch.in_words _ c.carried.ensures)

@@ -21,10 +21,10 @@ pub bounds-source-j-in-loop-j : goal.bounds-source-j-in-loop-j
 bounds-source-j-in-loop-j c = let a = c.args in let l = c.loop-j in lay_word a.source.image.words.now a.source.image.tags.now (went_of a.source.image.words.now a.source.image.n a.derived.now.log.now a.derived.now.logtags.now a.derived.now.starts.now a.derived.now.maps.now (going a.derived.now.sizes) a.exprmap.now) a.at a.end a.source.offset a.stacks.now (going a.derived.now.sizes) c.requires.legible c.requires.stacks.0 c.requires.stacks.1 l.stacks l.j (a.derived.now.sizes.exprtop + (l.j - a.at)) l.u l.invariant.0 c.loop-j-test.true
 
 pub carried-w-requires : goal.carried-w-requires
-carried-w-requires c = let a = c.args in let l = c.loop-j in record { ground = c.requires.ground; bearing = c.requires.bearing; maps_len = c.requires.maps_len; all = lay_fits a.source.image.words.now a.source.image.tags.now (went_of a.source.image.words.now a.source.image.n a.derived.now.log.now a.derived.now.logtags.now a.derived.now.starts.now a.derived.now.maps.now (going a.derived.now.sizes) a.exprmap.now) a.at a.end a.source.offset a.stacks.now (going a.derived.now.sizes) c.requires.legible c.requires.stacks.0 c.requires.stacks.1 l.stacks l.j (a.derived.now.sizes.exprtop + (l.j - a.at)) l.u l.invariant.0 c.loop-j-test.true }
+carried-w-requires c = let a = c.args in let l = c.loop-j in record { ground = c.requires.ground; bearing = c.requires.bearing; all = lay_fits a.source.image.words.now a.source.image.tags.now (went_of a.source.image.words.now a.source.image.n a.derived.now.log.now a.derived.now.logtags.now a.derived.now.starts.now a.derived.now.maps.now (going a.derived.now.sizes) a.exprmap.now) a.at a.end a.source.offset a.stacks.now (going a.derived.now.sizes) c.requires.legible c.requires.stacks.0 c.requires.stacks.1 l.stacks l.j (a.derived.now.sizes.exprtop + (l.j - a.at)) l.u l.invariant.0 c.loop-j-test.true }
 
 pub undefined_at-u-requires : goal.undefined_at-u-requires
-undefined_at-u-requires c = let a = c.args in let l = c.loop-j in record { ground = c.requires.ground; bearing = c.requires.bearing; maps_len = c.requires.maps_len; legible = lay_rest a.source.image.words.now a.source.image.tags.now (went_of a.source.image.words.now a.source.image.n a.derived.now.log.now a.derived.now.logtags.now a.derived.now.starts.now a.derived.now.maps.now (going a.derived.now.sizes) a.exprmap.now) a.at a.end a.source.offset a.stacks.now (going a.derived.now.sizes) c.requires.legible c.requires.stacks.0 c.requires.stacks.1 l.stacks l.j (a.derived.now.sizes.exprtop + (l.j - a.at)) l.u l.invariant.0 c.loop-j-test.true }
+undefined_at-u-requires c = let a = c.args in let l = c.loop-j in record { ground = c.requires.ground; bearing = c.requires.bearing; legible = lay_rest a.source.image.words.now a.source.image.tags.now (went_of a.source.image.words.now a.source.image.n a.derived.now.log.now a.derived.now.logtags.now a.derived.now.starts.now a.derived.now.maps.now (going a.derived.now.sizes) a.exprmap.now) a.at a.end a.source.offset a.stacks.now (going a.derived.now.sizes) c.requires.legible c.requires.stacks.0 c.requires.stacks.1 l.stacks l.j (a.derived.now.sizes.exprtop + (l.j - a.at)) l.u l.invariant.0 c.loop-j-test.true }
 
 pub offset_bounds-stacks-q : goal.offset_bounds-stacks-q
 offset_bounds-stacks-q c = let a = c.args in let l = c.loop-j in let q = lay_in a.source.image.words.now a.source.image.tags.now (went_of a.source.image.words.now a.source.image.n a.derived.now.log.now a.derived.now.logtags.now a.derived.now.starts.now a.derived.now.maps.now (going a.derived.now.sizes) a.exprmap.now) a.at a.end a.source.offset a.stacks.now (going a.derived.now.sizes) c.requires.legible c.requires.stacks.0 c.requires.stacks.1 l.stacks l.j (a.derived.now.sizes.exprtop + (l.j - a.at)) l.u l.invariant.0 c.loop-j-test.true in omega arith

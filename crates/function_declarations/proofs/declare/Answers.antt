@@ -17,7 +17,7 @@ pub loop-i-init : goal.loop-i-init
 loop-i-init c = (declare_begin c.requires.valid_arrays c.requires.under refl c.requires.declares, arrays_same _)
 
 pub copy_mapped_run-r-requires : goal.copy_mapped_run-r-requires
-copy_mapped_run-r-requires c = let D = c.loop-i.invariant.0 in let K = D.runs.kept D.going in let U = D.runs.under D.going in record { maps_len = K.maps-six; legible = (legible_all c.requires.expressions.few D.left.legible, U.stacks_are.high', made_small U) }
+copy_mapped_run-r-requires c = let D = c.loop-i.invariant.0 in let K = D.runs.kept D.going in let U = D.runs.under D.going in record { legible = (legible_all c.requires.expressions.few D.left.legible, U.stacks_are.high', made_small U) }
 
 pub overflow_sub-r : goal.overflow_sub-r
 overflow_sub-r c = let z = c.copy_mapped_run-r.ensures.reach in omega arith
@@ -41,7 +41,7 @@ pub returns-in_err-e : goal.returns-in_err-e
 returns-in_err-e c = let p = err_from_is_err_and c.from_residual.result c.from_residual.ensures.1 in rw (p.1, p.2) (record { does = let a = c.args in let l = c.loop-i in let K = c.requires.valid_arrays in let D = declare_ran K c.requires.ground.source a.source.offset (unites-idle c.requires.expressions a.source.image.n a.source.offset) a.at a.end a.exprmap.now a.stacks.now a.expressions.base (going l.e) l.derived.log.now l.derived.logtags.now l.derived.starts.now l.derived.maps.now l.derived.buckets.now l.exprmap l.invariant.0 c.copy_mapped_run-r.ensures (ap going c.advance-e.ensures) in let ne = c.if-i-end.false in let up = D.left.legible.stretch.rising in let less : c.copy_mapped_run-r.result.at < a.end = omega arith in declare_full K D less c.span_undefined-u.ensures c.in_err-e.ensures.does refl (unites_grow a.source.offset a.source.image.words.now a.source.image.tags.now a.source.image.n a.expressions.places.now a.expressions.count); same = arrays_then c.loop-i.invariant.1 c.in_err-e.ensures.same })
 
 pub put_word-requires : goal.put_word-requires
-put_word-requires c = let a = c.args in let l = c.loop-i in let K = c.requires.valid_arrays in let D = declare_ran K c.requires.ground.source a.source.offset (unites-idle c.requires.expressions a.source.image.n a.source.offset) a.at a.end a.exprmap.now a.stacks.now a.expressions.base (going l.e) l.derived.log.now l.derived.logtags.now l.derived.starts.now l.derived.maps.now l.derived.buckets.now l.exprmap l.invariant.0 c.copy_mapped_run-r.ensures (ap going c.advance-e.ensures) in let ne = c.if-i-end.false in let up = D.left.legible.stretch.rising in let less : c.copy_mapped_run-r.result.at < a.end = omega arith in let A = c.in_ok-e.ensures.does in let z = refl in let v = c.view.ensures in record { ground = c.requires.ground; bearing = rw (v.0, v.1, v.2, v.5) (bearing (A.kept z)); maps_len = rw v.3 (A.kept z).maps-six; i_bound = (declare_in K D less, fits_all a.source.image.words.now _ _ c.requires.expressions.few (declare_fits K D less)); stacks = rw v.5 (A.under z).stacks_are }
+put_word-requires c = let a = c.args in let l = c.loop-i in let K = c.requires.valid_arrays in let D = declare_ran K c.requires.ground.source a.source.offset (unites-idle c.requires.expressions a.source.image.n a.source.offset) a.at a.end a.exprmap.now a.stacks.now a.expressions.base (going l.e) l.derived.log.now l.derived.logtags.now l.derived.starts.now l.derived.maps.now l.derived.buckets.now l.exprmap l.invariant.0 c.copy_mapped_run-r.ensures (ap going c.advance-e.ensures) in let ne = c.if-i-end.false in let up = D.left.legible.stretch.rising in let less : c.copy_mapped_run-r.result.at < a.end = omega arith in let A = c.in_ok-e.ensures.does in let z = refl in let v = c.view.ensures in record { ground = c.requires.ground; bearing = rw (v.0, v.1, v.2, v.5) (bearing (A.kept z)); i_bound = (declare_in K D less, fits_all a.source.image.words.now _ _ c.requires.expressions.few (declare_fits K D less)); stacks = rw v.5 (A.under z).stacks_are }
 
 pub returns-in_err-e-2 : goal.returns-in_err-e-2
 returns-in_err-e-2 c = let p = err_from_is_err_and c.from_residual-in_err-e-2.result c.from_residual-in_err-e-2.ensures.1 in let v = c.view.ensures in rw (p.1, p.2) (record { does = let a = c.args in let l = c.loop-i in let K = c.requires.valid_arrays in let D = declare_ran K c.requires.ground.source a.source.offset (unites-idle c.requires.expressions a.source.image.n a.source.offset) a.at a.end a.exprmap.now a.stacks.now a.expressions.base (going l.e) l.derived.log.now l.derived.logtags.now l.derived.starts.now l.derived.maps.now l.derived.buckets.now l.exprmap l.invariant.0 c.copy_mapped_run-r.ensures (ap going c.advance-e.ensures) in let ne = c.if-i-end.false in let up = D.left.legible.stretch.rising in let less : c.copy_mapped_run-r.result.at < a.end = omega arith in declare_over K D less c.span_undefined-u.ensures c.in_ok-e.ensures.does refl (rw (v.0, v.1, v.2, v.3, v.5) at c.in_err-e-2.ensures) refl (unites_grow a.source.offset a.source.image.words.now a.source.image.tags.now a.source.image.n a.expressions.places.now a.expressions.count); same = arrays_then c.loop-i.invariant.1 c.in_ok-e.ensures.same })

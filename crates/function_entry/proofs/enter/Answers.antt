@@ -4,7 +4,7 @@ use Rattle.function_entry.proofs.Entry.{entry-piece, entry-nested, exprs_in, ent
 use Rattle.derive_state.specs.Sizes.{going}
 use Rattle.std.proofs.lemmas.Result.{err_from_is_err_and}
 use mathlib.Core.Path.{refl}
-use Rattle.derive_state.proofs.State.{arrays_same, arrays_then}
+use Rattle.derive_state.proofs.State.{arrays_then}
 use Rattle.function_entry.proofs.enter.Goals as goal
 
 pub localize-requires : goal.localize-requires
@@ -29,7 +29,7 @@ pub returns-then-exprtop-s : goal.returns-then-exprtop-s
 returns-then-exprtop-s c = record { does = let a = c.args in write_full c.requires.ground.source c.requires.j_bound.1 a.j c.requires.j_bound.0 _ _ _ c.record_at-at.ensures c.entry_function-s.ensures c.record_end-end.ensures a.source.offset _ _ a.derived.now.log.now a.derived.now.logtags.now a.derived.now.starts.now a.derived.now.maps.now a.derived.now.buckets.now a.stacks.now (going a.ends) c.requires.valid_arrays _ _ _ _ _ _ _ c.in_ok-got.ensures.does refl _ _ _ _ _ _ c.in_ok-led.ensures.does refl c.if-exprtop-s.true _ refl; same = arrays_then c.in_ok-got.ensures.same c.in_ok-led.ensures.same }
 
 pub write-requires : goal.write-requires
-write-requires c = let v = c.view.ensures in let a = c.args in let s = stacks_led c.requires.ground.source c.requires.j_bound.1 a.j c.requires.j_bound.0 _ _ _ c.record_at-at.ensures c.entry_function-s.ensures c.record_end-end.ensures a.source.offset _ _ a.derived.now.log.now a.derived.now.logtags.now a.derived.now.starts.now a.derived.now.maps.now a.derived.now.buckets.now a.stacks.now (going a.ends) c.requires.valid_arrays _ _ _ _ _ _ _ c.in_ok-got.ensures.does refl _ _ _ _ _ _ c.in_ok-led.ensures.does refl in let h = s.high in let l = c.if-exprtop-s.false in record { ground = c.requires.ground; bearing = rw (v.0, v.1, v.2, v.5) (led_bears c.requires.ground.source c.requires.j_bound.1 a.j c.requires.j_bound.0 _ _ _ c.record_at-at.ensures c.entry_function-s.ensures c.record_end-end.ensures a.source.offset _ _ a.derived.now.log.now a.derived.now.logtags.now a.derived.now.starts.now a.derived.now.maps.now a.derived.now.buckets.now a.stacks.now (going a.ends) c.requires.valid_arrays _ _ _ _ _ _ _ c.in_ok-got.ensures.does refl _ _ _ _ _ _ c.in_ok-led.ensures.does refl); maps_len = rw v.3 (c.in_ok-led.ensures.does.kept refl).maps-six; legible = head_read c.requires.ground.source c.requires.j_bound.1 a.j c.requires.j_bound.0 _ _ _ c.record_at-at.ensures c.entry_function-s.ensures c.record_end-end.ensures; stacks = rw v.5 (s, omega arith) }
+write-requires c = let v = c.view.ensures in let a = c.args in let s = stacks_led c.requires.ground.source c.requires.j_bound.1 a.j c.requires.j_bound.0 _ _ _ c.record_at-at.ensures c.entry_function-s.ensures c.record_end-end.ensures a.source.offset _ _ a.derived.now.log.now a.derived.now.logtags.now a.derived.now.starts.now a.derived.now.maps.now a.derived.now.buckets.now a.stacks.now (going a.ends) c.requires.valid_arrays _ _ _ _ _ _ _ c.in_ok-got.ensures.does refl _ _ _ _ _ _ c.in_ok-led.ensures.does refl in let h = s.high in let l = c.if-exprtop-s.false in record { ground = c.requires.ground; bearing = rw (v.0, v.1, v.2, v.5) (led_bears c.requires.ground.source c.requires.j_bound.1 a.j c.requires.j_bound.0 _ _ _ c.record_at-at.ensures c.entry_function-s.ensures c.record_end-end.ensures a.source.offset _ _ a.derived.now.log.now a.derived.now.logtags.now a.derived.now.starts.now a.derived.now.maps.now a.derived.now.buckets.now a.stacks.now (going a.ends) c.requires.valid_arrays _ _ _ _ _ _ _ c.in_ok-got.ensures.does refl _ _ _ _ _ _ c.in_ok-led.ensures.does refl); legible = head_read c.requires.ground.source c.requires.j_bound.1 a.j c.requires.j_bound.0 _ _ _ c.record_at-at.ensures c.entry_function-s.ensures c.record_end-end.ensures; stacks = rw v.5 (s, omega arith) }
 
 pub expressions_at-exprs-requires : goal.expressions_at-exprs-requires
 expressions_at-exprs-requires c = let a = c.args in exprs_in c.requires.ground.source c.requires.j_bound.1 a.j c.requires.j_bound.0 _ _ _ c.record_at-at.ensures c.entry_function-s.ensures c.record_end-end.ensures

@@ -1,6 +1,6 @@
 -- `import_operand` meets its contract: expression e is mapped, or imported.
 use Rattle.function_expressions.proofs.Needs.{need-idle}
-use Rattle.derive_state.proofs.State.{arrays_same, arrays_then}
+use Rattle.derive_state.proofs.State.{arrays_same}
 use mathlib.Core.Path.{refl}
 use Rattle.function_expressions.proofs.import_operand.Goals as goal
 

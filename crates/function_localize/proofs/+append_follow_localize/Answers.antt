@@ -13,7 +13,7 @@ use Rattle.function_words.proofs.Calm.{legible_all}
 use Rattle.function_localize.proofs.Sums.{place_4, place-next, run_on, run_room, fewer_word, fewer_run}
 use Rattle.function_localize.proofs.Calms.{going_run}
 use Rattle.function_localize.proofs.Starts.{declares}
-use Rattle.function_localize.proofs.Locals.{exprs_low, runs_at, runs_from, going_at, exprs_in, index_in, begun_kept, begun-under, declare_none, going_start, word_in, word_fits, word_bodied, callee_low, callee-ready, callee_full, callee_runs, other_runs, going_full, going_next, keep_in, keep_long, keep_exprs, keep_low, names_full, names_in_lem, names_words, names_good, names_whole}
+use Rattle.function_localize.proofs.Locals.{exprs_low, runs_from, going_at, exprs_in, index_in, begun_kept, begun-under, declare_none, going_start, word_in, word_fits, word_bodied, callee_low, callee-ready, callee_full, callee_runs, other_runs, going_full, going_next, keep_in, keep_long, keep_exprs, keep_low, names_full, names_in_lem, names_words, names_good, names_whole}
 use Rattle.function_localize.proofs.Follows.{follow-none, follow_old, follow-ready, follow-append}
 use Rattle.function_localize.proofs.Appending.{append-part, append-nested, append-standing, close-order, close_few, close_stacks, close_names, close-classes, close-room, append_done, append-none}
 use Rattle.derive_state.specs.Sizes.{going}
@@ -85,7 +85,7 @@ pub localize-loop-i-init : goal.localize-loop-i-init
 localize-loop-i-init t c = (record { on = λ _ _ g. g }, arrays_same _)
 
 pub localize-copy_mapped_run-r-requires : goal.localize-copy_mapped_run-r-requires
-localize-copy_mapped_run-r-requires t c = let a = c.args in let g = c.loop-i.invariant.0.on refl c.requires.valid_arrays (going_start c.requires.part c.index_parts-at.ensures c.requires.valid_arrays a.room (ap going c.no_expressions.ensures) c.in_ok-e.ensures.does refl) in let K = g.turn.way.kept in let U = g.turn.way.under in record { maps_len = K.maps-six; legible = (legible_all (k_few c.requires.part g.read) g.turn.legible, U.stacks_are.high', made_small U) }
+localize-copy_mapped_run-r-requires t c = let a = c.args in let g = c.loop-i.invariant.0.on refl c.requires.valid_arrays (going_start c.requires.part c.index_parts-at.ensures c.requires.valid_arrays a.room (ap going c.no_expressions.ensures) c.in_ok-e.ensures.does refl) in let K = g.turn.way.kept in let U = g.turn.way.under in record { legible = (legible_all (k_few c.requires.part g.read) g.turn.legible, U.stacks_are.high', made_small U) }
 
 pub localize-overflow_sub-r : goal.localize-overflow_sub-r
 localize-overflow_sub-r t c = run_on _ _ _ c.copy_mapped_run-r.ensures.reach
@@ -118,7 +118,7 @@ pub localize-returns-in_err-e-2 : goal.localize-returns-in_err-e-2
 localize-returns-in_err-e-2 t c = let p = err_from_is_err_and c.from_residual-in_err-e-2.result c.from_residual-in_err-e-2.ensures.1 in rw (p.1, p.2) (record { does = let a = c.args in let g = c.loop-i.invariant.0.on refl c.requires.valid_arrays (going_start c.requires.part c.index_parts-at.ensures c.requires.valid_arrays a.room (ap going c.no_expressions.ensures) c.in_ok-e.ensures.does refl) in let l = c.loop-i in let k = going_run c.requires.ground.source c.requires.part a.source.offset a.room _ (expressions c.requires.part g.read) _ _ c.requires.valid_arrays a.stacks.now l.derived.log.now l.derived.logtags.now l.derived.starts.now l.derived.maps.now l.derived.buckets.now l.exprmap (going l.e) g c.copy_mapped_run-r.ensures (ap going c.advance-e.ensures) in callee_full c.requires.part c.requires.valid_arrays k c.if-i-end.true c.if-source-j-eq-CALLEE.true refl c.in_err-e-2.ensures.import_function_ensures.does refl; same = arrays_then c.in_ok-e.ensures.same (arrays_then c.loop-i.invariant.1 c.in_err-e-2.ensures.import_function_ensures.same) })
 
 pub localize-put_word-requires : goal.localize-put_word-requires
-localize-put_word-requires t c = let v = c.view.ensures in let a = c.args in let g = c.loop-i.invariant.0.on refl c.requires.valid_arrays (going_start c.requires.part c.index_parts-at.ensures c.requires.valid_arrays a.room (ap going c.no_expressions.ensures) c.in_ok-e.ensures.does refl) in let l = c.loop-i in let k = going_run c.requires.ground.source c.requires.part a.source.offset a.room _ (expressions c.requires.part g.read) _ _ c.requires.valid_arrays a.stacks.now l.derived.log.now l.derived.logtags.now l.derived.starts.now l.derived.maps.now l.derived.buckets.now l.exprmap (going l.e) g c.copy_mapped_run-r.ensures (ap going c.advance-e.ensures) in let w = c.in_ok-e-2.ensures.import_function_ensures.does in let z = refl in record { ground = c.requires.ground; bearing = rw (v.0, v.1, v.2, v.5) (bearing (w.kept z)); maps_len = rw v.3 (w.kept z).maps-six; i_bound = word_fits c.requires.part c.requires.valid_arrays k c.if-i-end.true; stacks = rw v.5 (w.stacks_are z) }
+localize-put_word-requires t c = let v = c.view.ensures in let a = c.args in let g = c.loop-i.invariant.0.on refl c.requires.valid_arrays (going_start c.requires.part c.index_parts-at.ensures c.requires.valid_arrays a.room (ap going c.no_expressions.ensures) c.in_ok-e.ensures.does refl) in let l = c.loop-i in let k = going_run c.requires.ground.source c.requires.part a.source.offset a.room _ (expressions c.requires.part g.read) _ _ c.requires.valid_arrays a.stacks.now l.derived.log.now l.derived.logtags.now l.derived.starts.now l.derived.maps.now l.derived.buckets.now l.exprmap (going l.e) g c.copy_mapped_run-r.ensures (ap going c.advance-e.ensures) in let w = c.in_ok-e-2.ensures.import_function_ensures.does in let z = refl in record { ground = c.requires.ground; bearing = rw (v.0, v.1, v.2, v.5) (bearing (w.kept z)); i_bound = word_fits c.requires.part c.requires.valid_arrays k c.if-i-end.true; stacks = rw v.5 (w.stacks_are z) }
 
 pub localize-import_word-requires : goal.localize-import_word-requires
 localize-import_word-requires t c = let a = c.args in let g = c.loop-i.invariant.0.on refl c.requires.valid_arrays (going_start c.requires.part c.index_parts-at.ensures c.requires.valid_arrays a.room (ap going c.no_expressions.ensures) c.in_ok-e.ensures.does refl) in let l = c.loop-i in let k = going_run c.requires.ground.source c.requires.part a.source.offset a.room _ (expressions c.requires.part g.read) _ _ c.requires.valid_arrays a.stacks.now l.derived.log.now l.derived.logtags.now l.derived.starts.now l.derived.maps.now l.derived.buckets.now l.exprmap (going l.e) g c.copy_mapped_run-r.ensures (ap going c.advance-e.ensures) in record { ground = c.requires.ground; expressions = expressions c.requires.part k.read; bodied = word_bodied c.requires.part c.requires.valid_arrays k c.if-i-end.true; valid_arrays = k.turn.way.kept; under = k.turn.way.under }

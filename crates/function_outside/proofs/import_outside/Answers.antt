@@ -3,10 +3,10 @@ use native.Mathlib.Omega.{arith}
 use Prim.Native.Nat.{◌-◌}
 use mathlib.Core.Path.{refl}
 use lib.ListN.{get_or}
-use Rattle.derive_imports.proofs.Sources.{small_number}
-use Rattle.function_outside.proofs.Records.{lands_mapped}
+use Rattle.derive_state.specs.Source.{src_of}
+use Rattle.function_outside.proofs.Records.{lands_none}
 use Rattle.function_outside.proofs.Passing.{pass-first, pass_in, pass_skip, pass_number, pass_full, pass-next, pass_done}
-use Rattle.function_outside.proofs.import_outside.Goals.{then-s-lt-EXPR+then-missing+in_ok-e, then-s-lt-EXPR+else-missing, else-s-lt-EXPR}
+use Rattle.function_outside.proofs.import_outside.Goals.{then-s-lt-EXPR+in-Some+in_ok-e, then-s-lt-EXPR+in_default, else-s-lt-EXPR}
 use Rattle.derive_state.specs.Sizes.{going}
 use Rattle.std.proofs.lemmas.Result.{err_from_is_err_and}
 use Rattle.derive_state.proofs.State.{arrays_same, arrays_then}
@@ -24,20 +24,17 @@ offset_bounds-source-j c = let a = c.args in let l = c.loop-j in let z = pass_in
 pub bounds-source-j-then-s-lt-EXPR : goal.bounds-source-j-then-s-lt-EXPR
 bounds-source-j-then-s-lt-EXPR c = let a = c.args in let l = c.loop-j in pass_in a.source.image.words.now a.source.image.tags.now a.source.image.n a.source.offset a.at a.end a.derived.now.log.now a.derived.now.logtags.now a.derived.now.starts.now a.derived.now.maps.now a.derived.now.buckets.now (going a.ends) c.requires.valid_arrays l.derived.log.now l.derived.logtags.now l.derived.starts.now l.derived.maps.now l.derived.buckets.now (going l.e) l.j l.invariant.0 c.loop-j-test.true
 
-pub missing-requires : goal.missing-requires
-missing-requires c = λ h. let a = c.args in let l = c.loop-j in let t = c.refers_to-r in small_number a.source.image.words.now a.source.image.tags.now a.source.image.n c.requires.ground.source t.result.table t.result.number h (pass_number a.source.image.words.now a.source.image.tags.now a.source.image.n a.source.offset a.at a.end a.derived.now.log.now a.derived.now.logtags.now a.derived.now.starts.now a.derived.now.maps.now a.derived.now.buckets.now (going a.ends) c.requires.valid_arrays l.derived.log.now l.derived.logtags.now l.derived.starts.now l.derived.maps.now l.derived.buckets.now (going l.e) l.j l.invariant.0 c.loop-j-test.true (get_or a.source.image.tags.now l.j 0) refl c.if-s-lt-EXPR.true t.result.table t.result.number c.refers_to-r.ensures.0 c.refers_to-r.ensures.1 h)
-
-pub import_by_table-requires : goal.import_by_table-requires
-import_by_table-requires c = let a = c.args in let l = c.loop-j in let t = c.refers_to-r in record { ground = c.requires.ground; h_bound = pass_number a.source.image.words.now a.source.image.tags.now a.source.image.n a.source.offset a.at a.end a.derived.now.log.now a.derived.now.logtags.now a.derived.now.starts.now a.derived.now.maps.now a.derived.now.buckets.now (going a.ends) c.requires.valid_arrays l.derived.log.now l.derived.logtags.now l.derived.starts.now l.derived.maps.now l.derived.buckets.now (going l.e) l.j l.invariant.0 c.loop-j-test.true (get_or a.source.image.tags.now l.j 0) refl c.if-s-lt-EXPR.true t.result.table t.result.number c.refers_to-r.ensures.0 c.refers_to-r.ensures.1; valid_arrays = l.invariant.0.kept }
+pub import_record-requires : goal.import_record-requires
+import_record-requires c = let a = c.args in let l = c.loop-j in let q = c.in-Some.ensures in record { ground = c.requires.ground; r_bound = (q.2, pass_number a.source.image.words.now a.source.image.tags.now a.source.image.n a.source.offset a.at a.end a.derived.now.log.now a.derived.now.logtags.now a.derived.now.starts.now a.derived.now.maps.now a.derived.now.buckets.now (going a.ends) c.requires.valid_arrays l.derived.log.now l.derived.logtags.now l.derived.starts.now l.derived.maps.now l.derived.buckets.now (going l.e) l.j l.invariant.0 c.loop-j-test.true (get_or a.source.image.tags.now l.j 0) refl c.if-s-lt-EXPR.true _ _ q.0 q.1 q.2); valid_arrays = l.invariant.0.kept }
 
 pub returns-in_err-e : goal.returns-in_err-e
-returns-in_err-e c = let p = err_from_is_err_and c.from_residual.result c.from_residual.ensures.1 in rw (p.1, p.2) (record { does = let a = c.args in let l = c.loop-j in let t = c.refers_to-r in let u = c.import_by_table in pass_full a.source.image.words.now a.source.image.tags.now a.source.image.n a.source.offset a.at a.end a.derived.now.log.now a.derived.now.logtags.now a.derived.now.starts.now a.derived.now.maps.now a.derived.now.buckets.now (going a.ends) c.requires.valid_arrays l.derived.log.now l.derived.logtags.now l.derived.starts.now l.derived.maps.now l.derived.buckets.now (going l.e) l.j l.invariant.0 c.loop-j-test.true (get_or a.source.image.tags.now l.j 0) refl c.if-s-lt-EXPR.true t.result.table t.result.number c.refers_to-r.ensures.0 c.refers_to-r.ensures.1 _ c.import_by_table.new.derived.log.now c.import_by_table.new.derived.logtags.now c.import_by_table.new.derived.starts.now c.import_by_table.new.derived.maps.now c.import_by_table.new.derived.buckets.now c.in_err-e.ensures.does refl; same = arrays_then c.loop-j.invariant.1 c.in_err-e.ensures.same })
+returns-in_err-e c = let p = err_from_is_err_and c.from_residual.result c.from_residual.ensures.1 in rw (p.1, p.2) (record { does = let a = c.args in let l = c.loop-j in let q = c.in-Some.ensures in pass_full a.source.image.words.now a.source.image.tags.now a.source.image.n a.source.offset a.at a.end a.derived.now.log.now a.derived.now.logtags.now a.derived.now.starts.now a.derived.now.maps.now a.derived.now.buckets.now (going a.ends) c.requires.valid_arrays l.derived.log.now l.derived.logtags.now l.derived.starts.now l.derived.maps.now l.derived.buckets.now (going l.e) l.j l.invariant.0 c.loop-j-test.true (get_or a.source.image.tags.now l.j 0) refl c.if-s-lt-EXPR.true _ _ q.0 q.1 _ _ _ _ _ _ c.in_err-e.ensures.does refl; same = arrays_then c.loop-j.invariant.1 c.in_err-e.ensures.same })
 
 pub loop-j-preserved : goal.loop-j-preserved
 loop-j-preserved c =
     elim c.if-s-lt-EXPR.branch [
-      | then-s-lt-EXPR+then-missing+in_ok-e w ↦ rw (w.derived-is, w.e-is) ((let a = c.args in let l = c.loop-j in let t = w.refers_to-r in let u = w.import_by_table in pass-next a.source.image.words.now a.source.image.tags.now a.source.image.n a.source.offset a.at a.end a.derived.now.log.now a.derived.now.logtags.now a.derived.now.starts.now a.derived.now.maps.now a.derived.now.buckets.now (going a.ends) c.requires.valid_arrays l.derived.log.now l.derived.logtags.now l.derived.starts.now l.derived.maps.now l.derived.buckets.now (going l.e) l.j l.invariant.0 c.loop-j-test.true (get_or a.source.image.tags.now l.j 0) refl w.if-s-lt-EXPR.true t.result.table t.result.number w.refers_to-r.ensures.0 w.refers_to-r.ensures.1 (going w.in_ok-e.e) w.import_by_table.new.derived.log.now w.import_by_table.new.derived.logtags.now w.import_by_table.new.derived.starts.now w.import_by_table.new.derived.maps.now w.import_by_table.new.derived.buckets.now w.in_ok-e.ensures.does refl), arrays_then c.loop-j.invariant.1 w.in_ok-e.ensures.same)
-      | then-s-lt-EXPR+else-missing w ↦ rw (w.derived-is, w.e-is) ((let a = c.args in let l = c.loop-j in let t = w.refers_to-r in pass-next a.source.image.words.now a.source.image.tags.now a.source.image.n a.source.offset a.at a.end a.derived.now.log.now a.derived.now.logtags.now a.derived.now.starts.now a.derived.now.maps.now a.derived.now.buckets.now (going a.ends) c.requires.valid_arrays l.derived.log.now l.derived.logtags.now l.derived.starts.now l.derived.maps.now l.derived.buckets.now (going l.e) l.j l.invariant.0 c.loop-j-test.true (get_or a.source.image.tags.now l.j 0) refl w.if-s-lt-EXPR.true t.result.table t.result.number w.refers_to-r.ensures.0 w.refers_to-r.ensures.1 (going l.e) l.derived.log.now l.derived.logtags.now l.derived.starts.now l.derived.maps.now l.derived.buckets.now (lands_mapped c.requires.ground.source a.source.offset (pass_number a.source.image.words.now a.source.image.tags.now a.source.image.n a.source.offset a.at a.end a.derived.now.log.now a.derived.now.logtags.now a.derived.now.starts.now a.derived.now.maps.now a.derived.now.buckets.now (going a.ends) c.requires.valid_arrays l.derived.log.now l.derived.logtags.now l.derived.starts.now l.derived.maps.now l.derived.buckets.now (going l.e) l.j l.invariant.0 c.loop-j-test.true (get_or a.source.image.tags.now l.j 0) refl w.if-s-lt-EXPR.true t.result.table t.result.number w.refers_to-r.ensures.0 w.refers_to-r.ensures.1) l.invariant.0.going l.invariant.0.kept (w.missing.ensures.h_nonzero w.if-missing.false)) l.invariant.0.going), c.loop-j.invariant.1)
+      | then-s-lt-EXPR+in-Some+in_ok-e w ↦ rw (w.derived-is, w.e-is) (let a = c.args in let l = c.loop-j in let q = w.in-Some.ensures in pass-next a.source.image.words.now a.source.image.tags.now a.source.image.n a.source.offset a.at a.end a.derived.now.log.now a.derived.now.logtags.now a.derived.now.starts.now a.derived.now.maps.now a.derived.now.buckets.now (going a.ends) c.requires.valid_arrays l.derived.log.now l.derived.logtags.now l.derived.starts.now l.derived.maps.now l.derived.buckets.now (going l.e) l.j l.invariant.0 c.loop-j-test.true (get_or a.source.image.tags.now l.j 0) refl w.if-s-lt-EXPR.true _ _ q.0 q.1 _ _ _ _ _ _ w.in_ok-e.ensures.does refl, arrays_then c.loop-j.invariant.1 w.in_ok-e.ensures.same)
+      | then-s-lt-EXPR+in_default w ↦ rw (w.derived-is, w.e-is) (let a = c.args in let l = c.loop-j in pass-next a.source.image.words.now a.source.image.tags.now a.source.image.n a.source.offset a.at a.end a.derived.now.log.now a.derived.now.logtags.now a.derived.now.starts.now a.derived.now.maps.now a.derived.now.buckets.now (going a.ends) c.requires.valid_arrays l.derived.log.now l.derived.logtags.now l.derived.starts.now l.derived.maps.now l.derived.buckets.now (going l.e) l.j l.invariant.0 c.loop-j-test.true (get_or a.source.image.tags.now l.j 0) refl w.if-s-lt-EXPR.true _ _ refl refl _ _ _ _ _ _ (lands_none a.source.offset (src_of a.source.image.words.now a.source.image.n) _ _ a.source.image.words.now l.derived.log.now l.derived.logtags.now l.derived.starts.now l.derived.maps.now l.derived.buckets.now (going l.e) refl l.invariant.0.kept w.in_default.ensures) refl, c.loop-j.invariant.1)
       | else-s-lt-EXPR w ↦ rw (w.derived-is, w.e-is) ((let a = c.args in let l = c.loop-j in pass_skip a.source.image.words.now a.source.image.tags.now a.source.image.n a.source.offset a.at a.end a.derived.now.log.now a.derived.now.logtags.now a.derived.now.starts.now a.derived.now.maps.now a.derived.now.buckets.now (going a.ends) c.requires.valid_arrays l.derived.log.now l.derived.logtags.now l.derived.starts.now l.derived.maps.now l.derived.buckets.now (going l.e) l.j l.invariant.0 c.loop-j-test.true (get_or a.source.image.tags.now l.j 0) refl w.if-s-lt-EXPR.false), c.loop-j.invariant.1)
     ]
 

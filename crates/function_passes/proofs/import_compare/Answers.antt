@@ -14,7 +14,7 @@ use Rattle.function_words.proofs.Running.{makes_as, makes-idle}
 use Rattle.function_words.proofs.Words.{compare_low, early-none, early-one}
 use Rattle.function_passes.proofs.Comparing.{compared_none, compared_some}
 use mathlib.Core.Bool.{not}
-use Rattle.derive_state.proofs.State.{arrays_same, arrays_then}
+use Rattle.derive_state.proofs.State.{arrays_same}
 use mathlib.Core.Path.{refl}
 use Rattle.function_passes.proofs.import_compare.Goals as goal
 

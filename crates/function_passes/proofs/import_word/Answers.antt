@@ -11,7 +11,7 @@ use Rattle.function_words.proofs.Running.{made_small}
 use Rattle.function_words.proofs.Words.{fits_all}
 use Rattle.function_words.proofs.Body.{range_in, range_low, pass_from, pass-to, kind_stop, kind-put, plain_stop, plain-put}
 use Rattle.std.proofs.lemmas.Result.{err_from_is_err_and}
-use Rattle.derive_state.proofs.State.{arrays_same, arrays_then}
+use Rattle.derive_state.proofs.State.{arrays_same}
 use Rattle.function_passes.proofs.import_word.Goals as goal
 
 pub bounds-source-i-in-97-2 : goal.bounds-source-i-in-97-2
@@ -54,7 +54,7 @@ pub returns-in_err-got-in_default : goal.returns-in_err-got-in_default
 returns-in_err-got-in_default c = let p = err_from_is_err_and c.from_residual-in_err-got-in_default.result c.from_residual-in_err-got-in_default.ensures.1 in rw (p.1, p.2) (record { does = let a = c.args in plain_stop a.source.image.words.now a.source.image.tags.now a.source.image.n a.expressions.count a.source.offset (needsE a.source.offset a.source.image.words.now a.source.image.tags.now a.source.image.n a.expressions.places.now a.expressions.count) (glances a.source.offset a.source.image.words.now a.source.image.tags.now a.source.image.n a.expressions.places.now a.expressions.count) a.i a.end a.u c.requires.valid_arrays (search rules) (search rules) (search rules) c.in_err-got-in_default.ensures.does refl; same = c.in_err-got-in_default.ensures.same })
 
 pub put_word-requires : goal.put_word-requires
-put_word-requires c = let v = c.view.ensures in let a = c.args in let B = c.requires.bodied.0 in let h = c.requires.bodied.1 in let S = B.legible.stretch.small in let A = c.in_ok-got-in_default.ensures.does in let z = refl in record { ground = c.requires.ground; bearing = rw (v.0, v.1, v.2, v.5) (bearing (A.kept z)); maps_len = rw v.3 (A.kept z).maps-six; i_bound = (omega arith, fits_all a.source.image.words.now (target (get_or a.source.image.tags.now a.i 0)) (get_or a.source.image.words.now a.i 0) c.requires.expressions.few (legible_here B.legible h)); stacks = rw v.5 (A.under z).stacks_are }
+put_word-requires c = let v = c.view.ensures in let a = c.args in let B = c.requires.bodied.0 in let h = c.requires.bodied.1 in let S = B.legible.stretch.small in let A = c.in_ok-got-in_default.ensures.does in let z = refl in record { ground = c.requires.ground; bearing = rw (v.0, v.1, v.2, v.5) (bearing (A.kept z)); i_bound = (omega arith, fits_all a.source.image.words.now (target (get_or a.source.image.tags.now a.i 0)) (get_or a.source.image.words.now a.i 0) c.requires.expressions.few (legible_here B.legible h)); stacks = rw v.5 (A.under z).stacks_are }
 
 pub returns-in_ok-got-in_default : goal.returns-in_ok-got-in_default
 returns-in_ok-got-in_default c = let v = c.view.ensures in record { does = let a = c.args in plain-put a.source.image.words.now a.source.image.tags.now a.source.image.n a.expressions.count a.source.offset (needsE a.source.offset a.source.image.words.now a.source.image.tags.now a.source.image.n a.expressions.places.now a.expressions.count) (glances a.source.offset a.source.image.words.now a.source.image.tags.now a.source.image.n a.expressions.places.now a.expressions.count) a.i a.end a.u c.requires.valid_arrays (search rules) (search rules) (search rules) c.in_ok-got-in_default.ensures.does refl (legible_here c.requires.bodied.0.legible c.requires.bodied.1) (rw (v.0, v.1, v.2, v.3, v.5) at c.put_word.ensures); same = c.in_ok-got-in_default.ensures.same }

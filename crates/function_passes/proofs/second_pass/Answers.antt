@@ -17,7 +17,7 @@ pub bounds-exprmap-y : goal.bounds-exprmap-y
 bounds-exprmap-y c = let f = c.requires.expressions.few in let l = c.requires.b_le_k in let h = c.loop-y-test.true in omega arith
 
 pub append-requires : goal.append-requires
-append-requires c = let q = c.requires.by_index in let R = c.loop-y.invariant.ranging q.0 q.1 in let l = c.requires.b_le_k in let h = c.loop-y-test.true in record { ground = c.requires.ground; bearing = bearing (R.makes.kept R.going); maps_len = q.1.maps-six; expressions = c.requires.expressions; e_lt_k = omega arith; under = R.makes.under R.going }
+append-requires c = let q = c.requires.by_index in let R = c.loop-y.invariant.ranging q.0 q.1 in let l = c.requires.b_le_k in let h = c.loop-y-test.true in record { ground = c.requires.ground; bearing = bearing (R.makes.kept R.going); expressions = c.requires.expressions; e_lt_k = omega arith; under = R.makes.under R.going }
 
 pub returns-in_err-e : goal.returns-in_err-e
 returns-in_err-e c = let p = err_from_is_err_and c.from_residual.result c.from_residual.ensures.1 in refused c.from_residual.result p.0 p.1 (append_full c.loop-y.invariant c.requires.expressions c.requires.b_le_k c.loop-y-test.true c.if-exprmap-y-eq0.true c.in_err-e.ensures refl)

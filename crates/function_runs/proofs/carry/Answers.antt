@@ -9,7 +9,7 @@ pub returns-then-s-eq-TO : goal.returns-then-s-eq-TO
 returns-then-s-eq-TO c = let a = c.args in becomes-made _ a.made a.offset a.s a.w a.u c.if-s-eq-TO.true
 
 pub by_maps-requires : goal.by_maps-requires
-by_maps-requires c = record { maps_len = c.requires.maps_len; fact = c.requires.fact.0; by_index = c.requires.by_index }
+by_maps-requires c = record { fact = c.requires.fact.0; by_index = c.requires.by_index }
 
 pub returns : goal.returns
 returns c = let a = c.args in c.moved.ensures ∙ ap (λ (x : ℕ). moved (target a.s) x a.offset a.u) c.by_maps.ensures ∙ becomes-other _ a.made a.offset a.s a.w a.u c.if-s-eq-TO.false

@@ -1,7 +1,7 @@
 -- `intake_fields::+opened_part_row_stmt_times` meets its contract.
 use Rattle.std.proofs.Common.{rules, arith, ◌≡◌, ◌+◌, ◌-◌}
 use Rattle.intake_fields.specs.Rows.{SIZE, KIND_ROW}
-use Rattle.intake_fields.proofs.Rows.{rows_few}
+use Rattle.intake_fields.proofs.Rows.{rows_few, class_or_0}
 use Rattle.intake_fields.proofs.Walk.{exit}
 use Rattle.intake_fields.proofs.Steps.{opened-short, opened_err, opened_rows, stmt_short, stmt_err, stmt_next, stmt_wrong, part-text, part-operands, part_stmt, part_block, part-other, part_deep, row_done, row_symbol, row_large, row-short, row_plain, row_err, row-again, times_done, times_err, times-next}
 use Rattle.intake_fields.proofs.+opened_part_row_stmt_times.Goals as goal
@@ -35,6 +35,9 @@ part-returns-in_default t c = search (part-other, rules)
 
 pub row-entry-s-requires : goal.row-entry-s-requires
 row-entry-s-requires t c = let h = rows_few in let y = c.loop-at.invariant.in_rows in omega arith
+
+pub row-overflow_cast-s : goal.row-overflow_cast-s
+row-overflow_cast-s t c = let h = class_or_0 c.loop-at.p c.loop-at.invariant.in_rows in omega (arith, h, c.entry-s.ensures)
 
 pub row-returns-then-s-eq0 : goal.row-returns-then-s-eq0
 row-returns-then-s-eq0 t c = search (row_done, rules)

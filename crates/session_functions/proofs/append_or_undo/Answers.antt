@@ -2,7 +2,7 @@ use mathlib.Core.Path.{sym, ◌∙◌}
 use Rattle.derive_state.specs.Refers.{target_bytes}
 use Rattle.derive_state.specs.Sizes.{going}
 use Rattle.function_entry.proofs.Sources as Sources
-use Rattle.session_functions.proofs.Whole.{brings_full, brings_done}
+use Rattle.session_functions.proofs.Whole.{brings_full}
 use Rattle.derive_snapshot.proofs.Over.{full_told, undone}
 use Rattle.derive_snapshot.proofs.Saving.{save_begin}
 use Rattle.session_functions.proofs.append_or_undo.Goals as goal

@@ -1,9 +1,6 @@
 -- `finish_with_entries` meets its contract: without a source, into a ring of unknown functions, full, refused, or finished, and then the session is a new one.
-use mathlib.Core.Bool.{true, false}
-use mathlib.Core.Path.{refl, ap, ◌∙◌}
-use native.Mathlib.Omega.{arith}
+use mathlib.Core.Path.{refl, ap}
 use Rattle.derive_state.specs.Sizes.{going}
-use Rattle.derive_state.proofs.State.{arrays_same}
 use Rattle.derive_lookup.proofs.Bears.{bearing}
 use Rattle.function_entry.proofs.Sources as Sources
 use Rattle.session_operations.proofs.Memory.{memory_same}

@@ -1,11 +1,8 @@
 -- `import_function` meets its contract: without a source, out of range, into a ring of unknown functions, full, or imported.
-use mathlib.Core.Bool.{true, false}
-use mathlib.Core.Path.{refl, ap, ◌∙◌}
+use mathlib.Core.Path.{refl}
 use native.Mathlib.Omega.{arith}
 use Prim.Native.Nat.{◌<◌}
 use Rattle.model.specs.Module.{count_at}
-use Rattle.derive_state.specs.Sizes.{going}
-use Rattle.derive_state.proofs.State.{arrays_same}
 use Rattle.derive_lookup.proofs.Bears.{bearing}
 use Rattle.function_entry.proofs.Sources as Sources
 use Rattle.session_operations.proofs.Memory.{memory_same}

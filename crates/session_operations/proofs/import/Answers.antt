@@ -1,10 +1,7 @@
 -- `import` meets its contract: without a source, outside of the table, full, or imported.
 use mathlib.Core.Bool.{true, false}
-use mathlib.Core.Path.{refl, ap}
-use native.Mathlib.Omega.{arith}
+use mathlib.Core.Path.{refl}
 use Rattle.derive_state.specs.Refers.{tab_of}
-use Rattle.derive_state.specs.Sizes.{going, told}
-use Rattle.derive_state.proofs.State.{arrays_same}
 use Rattle.derive_imports.proofs.Sources.{small_number}
 use Rattle.session_operations.proofs.Importing.{below, source-held, import_unset, import_none, import_full, import_room}
 use Rattle.session_operations.proofs.Memory.{memory_same, stacks_low}

@@ -1,10 +1,7 @@
 -- `rename_type` meets its contract: without a source, outside of types or of names, full, or imported.
 use mathlib.Core.Bool.{true, false}
-use mathlib.Core.Path.{refl, ap}
+use mathlib.Core.Path.{refl}
 use native.Mathlib.Omega.{arith}
-use Rattle.derive_state.specs.Refers.{tab_of}
-use Rattle.derive_state.specs.Sizes.{going, told}
-use Rattle.derive_state.proofs.State.{arrays_same}
 use Rattle.derive_imports.proofs.Sources.{small_number}
 use Rattle.session_operations.proofs.Importing.{below, source-held, rename_unset, rename-none, rename_no_name, rename_full, rename-room}
 use Rattle.session_operations.proofs.Memory.{memory_same, stacks_low}

@@ -3,7 +3,6 @@ use mathlib.Core.Bool.{false}
 use mathlib.Core.Path.{refl}
 use Prim.Native.Nat.{ℕ}
 use lib.ListN.{length-replicate}
-use Rattle.derive_state.specs.Sizes.{going}
 use Rattle.derive_state.proofs.State.{arrays_same}
 use Rattle.session_operations.proofs.Memory.{stacks_low}
 use Rattle.session_operations.proofs.Setting.{accepted_source, elsewhere, set_refused, set_not, set_so}

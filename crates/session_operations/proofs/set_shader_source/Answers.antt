@@ -1,8 +1,6 @@
 -- `set_shader_source` meets its contract: as the first source, refused by intake, full, or set.
 use mathlib.Core.Path.{refl}
 use Rattle.std.proofs.lemmas.Result.{err_from_is_err_and}
-use Rattle.derive_state.specs.Sizes.{going}
-use Rattle.derive_state.proofs.State.{arrays_same}
 use Rattle.session_operations.proofs.Memory.{memory_same, stacks_low}
 use Rattle.session_operations.proofs.Setting.{accepted_source, set_refused, set_not, set_so}
 use Rattle.session_operations.proofs.set_shader_source.Goals as goal

@@ -1,7 +1,6 @@
 -- `perform` meets its contract: each operation is a step of its number.
 use mathlib.Core.Logic.{inl, inr}
 use mathlib.Core.Path.{refl}
-use Rattle.derive_state.specs.Sizes.{going}
 use Rattle.derive_state.proofs.State.{arrays_same}
 use Rattle.derive_session.specs.Valid.{session_of}
 use Rattle.session_operations.specs.Sessions.{meant}
