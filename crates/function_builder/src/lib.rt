@@ -41,11 +41,13 @@ pub const SEATS: usize = 2;
 
 pub const BODY: usize = 3;
 
-// The expressions of a source's function: where each of them starts in the image and where the last one ends, and how many there are; and where the derived ones
-// start on the stack, by their places.
+// A function of a source that is imported: where each of its expressions starts in the image and where the last one ends, and how many there are; and where the
+// derived ones start on the stack, by their places. What is written of it, `exprmap` and the stacks, stays two parameters: the map is read without the stacks
+// wherever a word is carried, and the stacks, which all functions in progress share, are written without a map.
 #[derive(Clone, Copy)]
-pub struct ExpressionIndex<'a> {
-    pub places: &'a Places,
+pub struct ShaderFunction<'a, 'p> {
+    pub source: ShaderSource<'a>,
+    pub places: &'p Places,
     pub count: usize,
     pub base: usize,
 }
@@ -140,29 +142,28 @@ pub fn write(
 
 // Appends expression e.
 pub fn append(
-    source: ShaderSource,
-    expressions: ExpressionIndex,
+    function: ShaderFunction,
     derived: &Derived,
     exprmap: &mut ExprMap,
     stacks: &mut StackRows,
     e: usize,
 ) -> Result<Sizes, Full>
-    requires ground { Ground source.image.words.now source.image.tags.now target_bytes source.image.n }
+    requires ground { Ground function.source.image.words.now function.source.image.tags.now target_bytes function.source.image.n }
     requires bearing { Bearing derived.now.log.now derived.now.logtags.now derived.now.starts.now (going derived.now.sizes) }
-    requires expressions { Expressions source.image.words.now source.image.tags.now expressions.places.now expressions.count }
-    requires e_lt_k { e < expressions.count }
-    requires under { Under expressions.count exprmap.old stacks.old expressions.base (going derived.now.sizes) }
-    ensures { Lays source.entry.image.words.now expressions.entry.count (pushE source.entry.offset (mod_of source.entry.image.words.now source.entry.image.n) still (exprs_of source.entry.image.words.now source.entry.image.tags.now expressions.entry.places.now expressions.entry.count) e) derived.now.log.now derived.now.logtags.now derived.now.starts.now derived.now.maps.now exprmap.old stacks.old expressions.entry.base (going derived.now.sizes) (told result) exprmap.new stacks.new }
+    requires expressions { Expressions function.source.image.words.now function.source.image.tags.now function.places.now function.count }
+    requires e_lt_k { e < function.count }
+    requires under { Under function.count exprmap.old stacks.old function.base (going derived.now.sizes) }
+    ensures { Lays function.entry.source.image.words.now function.entry.count (pushE function.entry.source.offset (mod_of function.entry.source.image.words.now function.entry.source.image.n) still (exprs_of function.entry.source.image.words.now function.entry.source.image.tags.now function.entry.places.now function.entry.count) e) derived.now.log.now derived.now.logtags.now derived.now.starts.now derived.now.maps.now exprmap.old stacks.old function.entry.base (going derived.now.sizes) (told result) exprmap.new stacks.new }
 {
-    let at = expressions.places[e] as usize;
-    let end = expressions.places[e + 1] as usize;
+    let at = function.places[e] as usize;
+    let end = function.places[e + 1] as usize;
     let exprtop = derived.sizes.exprtop as usize;
     let made = derived.sizes.made as usize;
     if 16384 - exprtop < end - at {
         return Err(Full);
     }
-    write(source, derived, exprmap, stacks, at, end);
-    stacks[SEATS][expressions.base + made] = exprtop as u32;
+    write(function.source, derived, exprmap, stacks, at, end);
+    stacks[SEATS][function.base + made] = exprtop as u32;
     exprmap[e] = (made + 1) as u16;
     Ok(Sizes {
         exprtop: (exprtop + (end - at)) as u16,
@@ -284,35 +285,34 @@ fn find_equal(
 
 // Maps expression e to an equal one on the stack, or appends it.
 pub fn merge(
-    source: ShaderSource,
-    expressions: ExpressionIndex,
+    function: ShaderFunction,
     derived: &Derived,
     exprmap: &mut ExprMap,
     stacks: &mut StackRows,
     e: usize,
 ) -> Result<Sizes, Full>
-    requires ground { Ground source.image.words.now source.image.tags.now target_bytes source.image.n }
+    requires ground { Ground function.source.image.words.now function.source.image.tags.now target_bytes function.source.image.n }
     requires bearing { Bearing derived.now.log.now derived.now.logtags.now derived.now.starts.now (going derived.now.sizes) }
-    requires expressions { Expressions source.image.words.now source.image.tags.now expressions.places.now expressions.count }
-    requires e_lt_k { e < expressions.count }
-    requires under { Under expressions.count exprmap.old stacks.old expressions.base (going derived.now.sizes) }
-    ensures { Lays source.entry.image.words.now expressions.entry.count (intern_expr source.entry.offset (mod_of source.entry.image.words.now source.entry.image.n) still (exprs_of source.entry.image.words.now source.entry.image.tags.now expressions.entry.places.now expressions.entry.count) e) derived.now.log.now derived.now.logtags.now derived.now.starts.now derived.now.maps.now exprmap.old stacks.old expressions.entry.base (going derived.now.sizes) (told result) exprmap.new stacks.new }
+    requires expressions { Expressions function.source.image.words.now function.source.image.tags.now function.places.now function.count }
+    requires e_lt_k { e < function.count }
+    requires under { Under function.count exprmap.old stacks.old function.base (going derived.now.sizes) }
+    ensures { Lays function.entry.source.image.words.now function.entry.count (intern_expr function.entry.source.offset (mod_of function.entry.source.image.words.now function.entry.source.image.n) still (exprs_of function.entry.source.image.words.now function.entry.source.image.tags.now function.entry.places.now function.entry.count) e) derived.now.log.now derived.now.logtags.now derived.now.starts.now derived.now.maps.now exprmap.old stacks.old function.entry.base (going derived.now.sizes) (told result) exprmap.new stacks.new }
 {
-    let at = expressions.places[e] as usize;
-    let end = expressions.places[e + 1] as usize;
+    let at = function.places[e] as usize;
+    let end = function.places[e + 1] as usize;
     if let Some(j) = find_equal(
-        source.image,
+        function.source.image,
         derived,
         exprmap,
         stacks,
-        expressions.base,
+        function.base,
         at,
         end,
     ) {
         exprmap[e] = (j + 1) as u16;
         return Ok(derived.sizes);
     }
-    append(source, expressions, derived, exprmap, stacks, e)
+    append(function, derived, exprmap, stacks, e)
 }
 
 // Pushes one word more of declarations, body or names.

@@ -24,43 +24,41 @@ use base_classes::EXPR;
 use base_views::EXPRESSIONS;
 use derive_imports::refers_to;
 use derive_state::{DerivedMut, ExprMap, Full, ShaderSource, Sizes, StackRows};
-use function_builder::{ExpressionIndex, merge};
+use function_builder::{ShaderFunction, merge};
 use function_outside::import_record;
 use function_runs::{copy_mapped_run, span_undefined};
 use function_words::{advance, put_word};
 
 // Imports expression e of an initialiser, with its operands, where it is not mapped.
 fn import_initialiser(
-    source: ShaderSource,
-    expressions: ExpressionIndex,
+    function: ShaderFunction,
     derived: &mut DerivedMut,
     exprmap: &mut ExprMap,
     stacks: &mut StackRows,
     ends: Sizes,
     e: usize,
 ) -> Result<Sizes, Full>
-    requires ground { Ground source.image.words.now source.image.tags.now target_bytes source.image.n }
-    requires expressions { Expressions source.image.words.now source.image.tags.now expressions.places.now expressions.count }
-    requires e_lt_k { e < expressions.count }
+    requires ground { Ground function.source.image.words.now function.source.image.tags.now target_bytes function.source.image.n }
+    requires expressions { Expressions function.source.image.words.now function.source.image.tags.now function.places.now function.count }
+    requires e_lt_k { e < function.count }
     requires valid_arrays { Valid derived.old ends }
-    requires under { Under expressions.count exprmap.old stacks.old expressions.base (going ends) }
-    ensures { Builds source.entry.image.words.now expressions.entry.count (initialiserE source.entry.offset (mod_of source.entry.image.words.now source.entry.image.n) still (exprs_of source.entry.image.words.now source.entry.image.tags.now expressions.entry.places.now expressions.entry.count) e) derived.old exprmap.old stacks.old expressions.entry.base ends result derived.new exprmap.new stacks.new }
+    requires under { Under function.count exprmap.old stacks.old function.base (going ends) }
+    ensures { Builds function.entry.source.image.words.now function.entry.count (initialiserE function.entry.source.offset (mod_of function.entry.source.image.words.now function.entry.source.image.n) still (exprs_of function.entry.source.image.words.now function.entry.source.image.tags.now function.entry.places.now function.entry.count) e) derived.old exprmap.old stacks.old function.entry.base ends result derived.new exprmap.new stacks.new }
 {
     if exprmap[e] != 0 {
         return Ok(ends);
     }
-    let end = expressions.places[e + 1] as usize;
+    let end = function.places[e + 1] as usize;
     let mut got = ends;
-    let at = expressions.places[e] as usize;
+    let at = function.places[e] as usize;
     for j in at..end {
-        let s = source.image.tags[j];
-        if let Some(r) = refers_to(s, source.image.words[j]) {
+        let s = function.source.image.tags[j];
+        if let Some(r) = refers_to(s, function.source.image.words[j]) {
             if s < EXPR {
-                got = import_record(source, derived, got, r)?;
+                got = import_record(function.source, derived, got, r)?;
             } else if r.table == EXPRESSIONS {
                 got = import_initialiser(
-                    source,
-                    expressions,
+                    function,
                     derived,
                     exprmap,
                     stacks,
@@ -70,52 +68,42 @@ fn import_initialiser(
             }
         }
     }
-    merge(source, expressions, &derived.view(got), exprmap, stacks, e)
+    merge(function, &derived.view(got), exprmap, stacks, e)
 }
 
 // Imports what word i of declarations refers to: an expression of an initialiser, or a record of a table.
 // It stands beside function_passes::import_body_word, which appends the expression and does not merge it, for the reason given there.
 fn import_declaration_word(
-    source: ShaderSource,
-    expressions: ExpressionIndex,
+    function: ShaderFunction,
     derived: &mut DerivedMut,
     exprmap: &mut ExprMap,
     stacks: &mut StackRows,
     ends: Sizes,
     i: usize,
 ) -> Result<Sizes, Full>
-    requires ground { Ground source.image.words.now source.image.tags.now target_bytes source.image.n }
-    requires expressions { Expressions source.image.words.now source.image.tags.now expressions.places.now expressions.count }
-    requires i_bound { (i < 16384) × (All (FitN source.image.words.now expressions.count) (ref_of (target (get_or source.image.tags.now i 0)) (get_or source.image.words.now i 0) [])) }
+    requires ground { Ground function.source.image.words.now function.source.image.tags.now target_bytes function.source.image.n }
+    requires expressions { Expressions function.source.image.words.now function.source.image.tags.now function.places.now function.count }
+    requires i_bound { (i < 16384) × (All (FitN function.source.image.words.now function.count) (ref_of (target (get_or function.source.image.tags.now i 0)) (get_or function.source.image.words.now i 0) [])) }
     requires valid_arrays { Valid derived.old ends }
-    requires under { Under expressions.count exprmap.old stacks.old expressions.base (going ends) }
-    ensures { Builds source.entry.image.words.now expressions.entry.count (arriveE source.entry.offset (mod_of source.entry.image.words.now source.entry.image.n) still (unites source.entry.offset source.entry.image.words.now source.entry.image.tags.now source.entry.image.n expressions.entry.places.now expressions.entry.count) (unites source.entry.offset source.entry.image.words.now source.entry.image.tags.now source.entry.image.n expressions.entry.places.now expressions.entry.count) (target (get_or source.entry.image.tags.now i 0)) (get_or source.entry.image.words.now i 0)) derived.old exprmap.old stacks.old expressions.entry.base ends result derived.new exprmap.new stacks.new }
+    requires under { Under function.count exprmap.old stacks.old function.base (going ends) }
+    ensures { Builds function.entry.source.image.words.now function.entry.count (arriveE function.entry.source.offset (mod_of function.entry.source.image.words.now function.entry.source.image.n) still (unites function.entry.source.offset function.entry.source.image.words.now function.entry.source.image.tags.now function.entry.source.image.n function.entry.places.now function.entry.count) (unites function.entry.source.offset function.entry.source.image.words.now function.entry.source.image.tags.now function.entry.source.image.n function.entry.places.now function.entry.count) (target (get_or function.entry.source.image.tags.now i 0)) (get_or function.entry.source.image.words.now i 0)) derived.old exprmap.old stacks.old function.entry.base ends result derived.new exprmap.new stacks.new }
 {
-    let s = source.image.tags[i];
-    let Some(r) = refers_to(s, source.image.words[i]) else {
+    let s = function.source.image.tags[i];
+    let Some(r) = refers_to(s, function.source.image.words[i]) else {
         return Ok(ends);
     };
     if s < EXPR {
-        return import_record(source, derived, ends, r);
+        return import_record(function.source, derived, ends, r);
     }
     if r.table != EXPRESSIONS {
         return Ok(ends);
     }
-    import_initialiser(
-        source,
-        expressions,
-        derived,
-        exprmap,
-        stacks,
-        ends,
-        r.number as usize,
-    )
+    import_initialiser(function, derived, exprmap, stacks, ends, r.number as usize)
 }
 
 // Imports and writes the declarations, from `at` to `end`.
 pub fn declare(
-    source: ShaderSource,
-    expressions: ExpressionIndex,
+    function: ShaderFunction,
     derived: &mut DerivedMut,
     exprmap: &mut ExprMap,
     stacks: &mut StackRows,
@@ -123,12 +111,12 @@ pub fn declare(
     at: usize,
     end: usize,
 ) -> Result<Sizes, Full>
-    requires ground { Ground source.image.words.now source.image.tags.now target_bytes source.image.n }
-    requires expressions { Expressions source.image.words.now source.image.tags.now expressions.places.now expressions.count }
-    requires declares { Declares source.image.words.now source.image.tags.now expressions.count at end }
+    requires ground { Ground function.source.image.words.now function.source.image.tags.now target_bytes function.source.image.n }
+    requires expressions { Expressions function.source.image.words.now function.source.image.tags.now function.places.now function.count }
+    requires declares { Declares function.source.image.words.now function.source.image.tags.now function.count at end }
     requires valid_arrays { Valid derived.old ends }
-    requires under { Under expressions.count exprmap.old stacks.old expressions.base (going ends) }
-    ensures { Passes source.entry.image.words.now expressions.entry.count (after source.entry.offset (mod_of source.entry.image.words.now source.entry.image.n) still (unites source.entry.offset source.entry.image.words.now source.entry.image.tags.now source.entry.image.n expressions.entry.places.now expressions.entry.count) (unites source.entry.offset source.entry.image.words.now source.entry.image.tags.now source.entry.image.n expressions.entry.places.now expressions.entry.count) (between source.entry.image.tags.now source.entry.image.words.now (at) end)) (λ (m : Builder). map word (written source.entry.offset (mod_of source.entry.image.words.now source.entry.image.n) still (unites source.entry.offset source.entry.image.words.now source.entry.image.tags.now source.entry.image.n expressions.entry.places.now expressions.entry.count) (unites source.entry.offset source.entry.image.words.now source.entry.image.tags.now source.entry.image.n expressions.entry.places.now expressions.entry.count) (between source.entry.image.tags.now source.entry.image.words.now (at) end) false m)) derived.old exprmap.old stacks.old expressions.entry.base ends result derived.new exprmap.new stacks.new }
+    requires under { Under function.count exprmap.old stacks.old function.base (going ends) }
+    ensures { Passes function.entry.source.image.words.now function.entry.count (after function.entry.source.offset (mod_of function.entry.source.image.words.now function.entry.source.image.n) still (unites function.entry.source.offset function.entry.source.image.words.now function.entry.source.image.tags.now function.entry.source.image.n function.entry.places.now function.entry.count) (unites function.entry.source.offset function.entry.source.image.words.now function.entry.source.image.tags.now function.entry.source.image.n function.entry.places.now function.entry.count) (between function.entry.source.image.tags.now function.entry.source.image.words.now (at) end)) (λ (m : Builder). map word (written function.entry.source.offset (mod_of function.entry.source.image.words.now function.entry.source.image.n) still (unites function.entry.source.offset function.entry.source.image.words.now function.entry.source.image.tags.now function.entry.source.image.n function.entry.places.now function.entry.count) (unites function.entry.source.offset function.entry.source.image.words.now function.entry.source.image.tags.now function.entry.source.image.n function.entry.places.now function.entry.count) (between function.entry.source.image.tags.now function.entry.source.image.words.now (at) end) false m)) derived.old exprmap.old stacks.old function.entry.base ends result derived.new exprmap.new stacks.new }
 {
     let mut e = ends;
     let mut i = at;
@@ -136,7 +124,7 @@ pub fn declare(
     // no counted loop: a turn passes a run of words, as long as copy_mapped_run finds it, and one word more
     while i < end {
         let r = copy_mapped_run(
-            source,
+            function.source,
             derived.maps,
             exprmap,
             stacks,
@@ -154,9 +142,9 @@ pub fn declare(
         }
         let j = i;
         i += 1;
-        u = span_undefined(source.image, j, end, u);
-        e = import_declaration_word(source, expressions, derived, exprmap, stacks, e, j)?;
-        e = put_word(source, &derived.view(e), exprmap, stacks, j, u)?;
+        u = span_undefined(function.source.image, j, end, u);
+        e = import_declaration_word(function, derived, exprmap, stacks, e, j)?;
+        e = put_word(function.source, &derived.view(e), exprmap, stacks, j, u)?;
     }
     Ok(e)
 }

@@ -21,56 +21,54 @@ use base_views::EXPRESSIONS;
 use base_words::Words;
 use derive_imports::refers_to;
 use derive_state::{DerivedMut, ExprMap, Full, Places, ShaderSource, Sizes, StackRows};
-use function_builder::{ExpressionIndex, append};
+use function_builder::{ShaderFunction, append};
 use function_outside::{import_outside, import_record};
 
 // Imports expression e of k, which is not mapped, with what it refers to outside the function.
 fn import_unmapped(
-    source: ShaderSource,
-    expressions: ExpressionIndex,
+    function: ShaderFunction,
     derived: &mut DerivedMut,
     exprmap: &mut ExprMap,
     stacks: &mut StackRows,
     ends: Sizes,
     e: usize,
 ) -> Result<Sizes, Full>
-    requires ground { Ground source.image.words.now source.image.tags.now target_bytes source.image.n }
-    requires expressions { Expressions source.image.words.now source.image.tags.now expressions.places.now expressions.count }
-    requires e_lt_k { e < expressions.count }
+    requires ground { Ground function.source.image.words.now function.source.image.tags.now target_bytes function.source.image.n }
+    requires expressions { Expressions function.source.image.words.now function.source.image.tags.now function.places.now function.count }
+    requires e_lt_k { e < function.count }
     requires valid_arrays { Valid derived.old ends }
-    requires under { Under expressions.count exprmap.old stacks.old expressions.base (going ends) }
-    ensures { Builds source.entry.image.words.now expressions.entry.count (needE source.entry.offset (mod_of source.entry.image.words.now source.entry.image.n) still (exprs_of source.entry.image.words.now source.entry.image.tags.now expressions.entry.places.now expressions.entry.count) e) derived.old exprmap.old stacks.old expressions.entry.base ends result derived.new exprmap.new stacks.new }
+    requires under { Under function.count exprmap.old stacks.old function.base (going ends) }
+    ensures { Builds function.entry.source.image.words.now function.entry.count (needE function.entry.source.offset (mod_of function.entry.source.image.words.now function.entry.source.image.n) still (exprs_of function.entry.source.image.words.now function.entry.source.image.tags.now function.entry.places.now function.entry.count) e) derived.old exprmap.old stacks.old function.entry.base ends result derived.new exprmap.new stacks.new }
 {
     if exprmap[e] != 0 {
         return Ok(ends);
     }
-    let at = expressions.places[e] as usize;
-    let end = expressions.places[e + 1] as usize;
-    let got = import_outside(source, derived, ends, at, end)?;
-    append(source, expressions, &derived.view(got), exprmap, stacks, e)
+    let at = function.places[e] as usize;
+    let end = function.places[e + 1] as usize;
+    let got = import_outside(function.source, derived, ends, at, end)?;
+    append(function, &derived.view(got), exprmap, stacks, e)
 }
 
 // The same, but tests first whether e is mapped: it is called for every operand and is small, since most are mapped.
 pub fn import_operand(
-    source: ShaderSource,
-    expressions: ExpressionIndex,
+    function: ShaderFunction,
     derived: &mut DerivedMut,
     exprmap: &mut ExprMap,
     stacks: &mut StackRows,
     ends: Sizes,
     e: usize,
 ) -> Result<Sizes, Full>
-    requires ground { Ground source.image.words.now source.image.tags.now target_bytes source.image.n }
-    requires expressions { Expressions source.image.words.now source.image.tags.now expressions.places.now expressions.count }
-    requires e_lt_k { e < expressions.count }
+    requires ground { Ground function.source.image.words.now function.source.image.tags.now target_bytes function.source.image.n }
+    requires expressions { Expressions function.source.image.words.now function.source.image.tags.now function.places.now function.count }
+    requires e_lt_k { e < function.count }
     requires valid_arrays { Valid derived.old ends }
-    requires under { Under expressions.count exprmap.old stacks.old expressions.base (going ends) }
-    ensures { Builds source.entry.image.words.now expressions.entry.count (needE source.entry.offset (mod_of source.entry.image.words.now source.entry.image.n) still (exprs_of source.entry.image.words.now source.entry.image.tags.now expressions.entry.places.now expressions.entry.count) e) derived.old exprmap.old stacks.old expressions.entry.base ends result derived.new exprmap.new stacks.new }
+    requires under { Under function.count exprmap.old stacks.old function.base (going ends) }
+    ensures { Builds function.entry.source.image.words.now function.entry.count (needE function.entry.source.offset (mod_of function.entry.source.image.words.now function.entry.source.image.n) still (exprs_of function.entry.source.image.words.now function.entry.source.image.tags.now function.entry.places.now function.entry.count) e) derived.old exprmap.old stacks.old function.entry.base ends result derived.new exprmap.new stacks.new }
 {
     if exprmap[e] != 0 {
         return Ok(ends);
     }
-    import_unmapped(source, expressions, derived, exprmap, stacks, ends, e)
+    import_unmapped(function, derived, exprmap, stacks, ends, e)
 }
 
 // Whether expression e is not mapped and is standing. Most are mapped.
@@ -84,36 +82,35 @@ fn is_unmapped_standing(words: &Words, places: &Places, exprmap: &ExprMap, e: us
 
 // What an Emit's first pass imports of expression e, where it is not mapped.
 pub fn import_standing(
-    source: ShaderSource,
-    expressions: ExpressionIndex,
+    function: ShaderFunction,
     derived: &mut DerivedMut,
     exprmap: &mut ExprMap,
     stacks: &mut StackRows,
     ends: Sizes,
     e: usize,
 ) -> Result<Sizes, Full>
-    requires ground { Ground source.image.words.now source.image.tags.now target_bytes source.image.n }
-    requires expressions { Expressions source.image.words.now source.image.tags.now expressions.places.now expressions.count }
-    requires e_lt_k { e < expressions.count }
+    requires ground { Ground function.source.image.words.now function.source.image.tags.now target_bytes function.source.image.n }
+    requires expressions { Expressions function.source.image.words.now function.source.image.tags.now function.places.now function.count }
+    requires e_lt_k { e < function.count }
     requires valid_arrays { Valid derived.old ends }
-    requires under { Under expressions.count exprmap.old stacks.old expressions.base (going ends) }
-    ensures { Builds source.entry.image.words.now expressions.entry.count (glanceE source.entry.offset (mod_of source.entry.image.words.now source.entry.image.n) still (exprs_of source.entry.image.words.now source.entry.image.tags.now expressions.entry.places.now expressions.entry.count) e) derived.old exprmap.old stacks.old expressions.entry.base ends result derived.new exprmap.new stacks.new }
+    requires under { Under function.count exprmap.old stacks.old function.base (going ends) }
+    ensures { Builds function.entry.source.image.words.now function.entry.count (glanceE function.entry.source.offset (mod_of function.entry.source.image.words.now function.entry.source.image.n) still (exprs_of function.entry.source.image.words.now function.entry.source.image.tags.now function.entry.places.now function.entry.count) e) derived.old exprmap.old stacks.old function.entry.base ends result derived.new exprmap.new stacks.new }
 {
     if exprmap[e] != 0 {
         return Ok(ends);
     }
-    let end = expressions.places[e + 1] as usize;
+    let end = function.places[e + 1] as usize;
     let mut got = ends;
-    let at = expressions.places[e] as usize;
+    let at = function.places[e] as usize;
     for j in at..end {
-        let s = source.image.tags[j];
-        if let Some(r) = refers_to(s, source.image.words[j]) {
+        let s = function.source.image.tags[j];
+        if let Some(r) = refers_to(s, function.source.image.words[j]) {
             if s < EXPR {
-                got = import_record(source, derived, got, r)?;
+                got = import_record(function.source, derived, got, r)?;
             } else if r.table == EXPRESSIONS {
                 let x = r.number as usize;
-                if is_unmapped_standing(source.image.words, expressions.places, exprmap, x) {
-                    got = import_unmapped(source, expressions, derived, exprmap, stacks, got, x)?;
+                if is_unmapped_standing(function.source.image.words, function.places, exprmap, x) {
+                    got = import_unmapped(function, derived, exprmap, stacks, got, x)?;
                 }
             }
         }

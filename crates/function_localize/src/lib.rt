@@ -25,7 +25,7 @@ use base_views::{FUNCTIONS, Image, expressions_at};
 use base_words::Tags;
 use derive_lookup::known;
 use derive_state::{DerivedMut, Full, Places, ShaderSource, Sizes, StackRows};
-use function_builder::{ExpressionIndex, index};
+use function_builder::{ShaderFunction, index};
 use function_declarations::declare;
 use function_names::{import_names, keep_names};
 use function_passes::import_word;
@@ -102,8 +102,8 @@ pub fn localize(
     let k = at.count;
     let named = at.named;
     let mut e = declare(
-        source,
-        ExpressionIndex {
+        ShaderFunction {
+            source,
             places,
             count: k,
             base: e1,
@@ -152,8 +152,8 @@ pub fn localize(
                 e = put_word(source, &derived.view(e), &exprmap, stacks, j, u)?;
             } else {
                 e = import_word(
-                    source,
-                    ExpressionIndex {
+                    ShaderFunction {
+                        source,
                         places,
                         count: k,
                         base: e1,

@@ -26,7 +26,7 @@ use base_classes::{ATOMIC, EXPR, FROM, OPT_EXPR, STMT_KIND, TO};
 use base_views::{EXPRESSIONS, Image};
 use derive_imports::refers_to;
 use derive_state::{Derived, DerivedMut, ExprMap, Full, ShaderSource, Sizes, StackRows};
-use function_builder::{ExpressionIndex, append, push};
+use function_builder::{ShaderFunction, append, push};
 use function_expressions::{import_operand, import_standing};
 use function_outside::import_record;
 use function_runs::atomic;
@@ -36,46 +36,36 @@ use function_words::put_word;
 // import_declaration_word does so of declarations, and merges the expression. One function for both would be no plainer: beside its seven parameters it would
 // take another that tells them apart, and its contract would say both.
 fn import_body_word(
-    source: ShaderSource,
-    expressions: ExpressionIndex,
+    function: ShaderFunction,
     derived: &mut DerivedMut,
     exprmap: &mut ExprMap,
     stacks: &mut StackRows,
     ends: Sizes,
     i: usize,
 ) -> Result<Sizes, Full>
-    requires ground { Ground source.image.words.now source.image.tags.now target_bytes source.image.n }
-    requires expressions { Expressions source.image.words.now source.image.tags.now expressions.places.now expressions.count }
-    requires i_bound { (i < 16384) × (All (FitN source.image.words.now expressions.count) (ref_of (target (get_or source.image.tags.now i 0)) (get_or source.image.words.now i 0) [])) }
+    requires ground { Ground function.source.image.words.now function.source.image.tags.now target_bytes function.source.image.n }
+    requires expressions { Expressions function.source.image.words.now function.source.image.tags.now function.places.now function.count }
+    requires i_bound { (i < 16384) × (All (FitN function.source.image.words.now function.count) (ref_of (target (get_or function.source.image.tags.now i 0)) (get_or function.source.image.words.now i 0) [])) }
     requires valid_arrays { Valid derived.old ends }
-    requires under { Under expressions.count exprmap.old stacks.old expressions.base (going ends) }
-    ensures { Builds source.entry.image.words.now expressions.entry.count (arriveE source.entry.offset (mod_of source.entry.image.words.now source.entry.image.n) still (needs source.entry.offset source.entry.image.words.now source.entry.image.tags.now source.entry.image.n expressions.entry.places.now expressions.entry.count) (glances source.entry.offset source.entry.image.words.now source.entry.image.tags.now source.entry.image.n expressions.entry.places.now expressions.entry.count) (target (get_or source.entry.image.tags.now i 0)) (get_or source.entry.image.words.now i 0)) derived.old exprmap.old stacks.old expressions.entry.base ends result derived.new exprmap.new stacks.new }
+    requires under { Under function.count exprmap.old stacks.old function.base (going ends) }
+    ensures { Builds function.entry.source.image.words.now function.entry.count (arriveE function.entry.source.offset (mod_of function.entry.source.image.words.now function.entry.source.image.n) still (needs function.entry.source.offset function.entry.source.image.words.now function.entry.source.image.tags.now function.entry.source.image.n function.entry.places.now function.entry.count) (glances function.entry.source.offset function.entry.source.image.words.now function.entry.source.image.tags.now function.entry.source.image.n function.entry.places.now function.entry.count) (target (get_or function.entry.source.image.tags.now i 0)) (get_or function.entry.source.image.words.now i 0)) derived.old exprmap.old stacks.old function.entry.base ends result derived.new exprmap.new stacks.new }
 {
-    let s = source.image.tags[i];
-    let Some(r) = refers_to(s, source.image.words[i]) else {
+    let s = function.source.image.tags[i];
+    let Some(r) = refers_to(s, function.source.image.words[i]) else {
         return Ok(ends);
     };
     if s < EXPR {
-        return import_record(source, derived, ends, r);
+        return import_record(function.source, derived, ends, r);
     }
     if r.table != EXPRESSIONS {
         return Ok(ends);
     }
-    import_operand(
-        source,
-        expressions,
-        derived,
-        exprmap,
-        stacks,
-        ends,
-        r.number as usize,
-    )
+    import_operand(function, derived, exprmap, stacks, ends, r.number as usize)
 }
 
 // An Emit's first pass over the expressions from a to b.
 fn first_pass(
-    source: ShaderSource,
-    expressions: ExpressionIndex,
+    function: ShaderFunction,
     derived: &mut DerivedMut,
     exprmap: &mut ExprMap,
     stacks: &mut StackRows,
@@ -83,44 +73,42 @@ fn first_pass(
     a: usize,
     b: usize,
 ) -> Result<Sizes, Full>
-    requires ground { Ground source.image.words.now source.image.tags.now target_bytes source.image.n }
-    requires expressions { Expressions source.image.words.now source.image.tags.now expressions.places.now expressions.count }
-    requires b_le_k { b ≤ expressions.count }
+    requires ground { Ground function.source.image.words.now function.source.image.tags.now target_bytes function.source.image.n }
+    requires expressions { Expressions function.source.image.words.now function.source.image.tags.now function.places.now function.count }
+    requires b_le_k { b ≤ function.count }
     requires valid_arrays { Valid derived.old ends }
-    requires under { Under expressions.count exprmap.old stacks.old expressions.base (going ends) }
-    ensures { Builds source.entry.image.words.now expressions.entry.count (each_e (in_range (record { from = a; to = b })) (glances source.entry.offset source.entry.image.words.now source.entry.image.tags.now source.entry.image.n expressions.entry.places.now expressions.entry.count)) derived.old exprmap.old stacks.old expressions.entry.base ends result derived.new exprmap.new stacks.new }
+    requires under { Under function.count exprmap.old stacks.old function.base (going ends) }
+    ensures { Builds function.entry.source.image.words.now function.entry.count (each_e (in_range (record { from = a; to = b })) (glances function.entry.source.offset function.entry.source.image.words.now function.entry.source.image.tags.now function.entry.source.image.n function.entry.places.now function.entry.count)) derived.old exprmap.old stacks.old function.entry.base ends result derived.new exprmap.new stacks.new }
 {
     let mut e = ends;
     for y in a..b {
-        e = import_standing(source, expressions, derived, exprmap, stacks, e, y)?;
+        e = import_standing(function, derived, exprmap, stacks, e, y)?;
     }
     Ok(e)
 }
 
 // Its second pass: what the expressions refer to outside was imported by the first, so what is not mapped is appended.
 fn second_pass(
-    source: ShaderSource,
-    expressions: ExpressionIndex,
+    function: ShaderFunction,
     derived: &Derived,
     exprmap: &mut ExprMap,
     stacks: &mut StackRows,
     a: usize,
     b: usize,
 ) -> Result<Sizes, Full>
-    requires ground { Ground source.image.words.now source.image.tags.now target_bytes source.image.n }
-    requires expressions { Expressions source.image.words.now source.image.tags.now expressions.places.now expressions.count }
-    requires b_le_k { b ≤ expressions.count }
+    requires ground { Ground function.source.image.words.now function.source.image.tags.now target_bytes function.source.image.n }
+    requires expressions { Expressions function.source.image.words.now function.source.image.tags.now function.places.now function.count }
+    requires b_le_k { b ≤ function.count }
     requires by_index { (buckets : List ℕ) × ValidArrays derived.now.log.now derived.now.logtags.now derived.now.starts.now derived.now.maps.now buckets (going derived.now.sizes) }
-    requires under { Under expressions.count exprmap.old stacks.old expressions.base (going derived.now.sizes) }
-    requires drawn { Drawn source.image.words.now source.image.tags.now expressions.places.now expressions.count derived.now.maps.now exprmap.old a b }
-    ensures { Lays source.entry.image.words.now expressions.entry.count (each_e (in_range (record { from = a; to = b })) (needs source.entry.offset source.entry.image.words.now source.entry.image.tags.now source.entry.image.n expressions.entry.places.now expressions.entry.count)) derived.now.log.now derived.now.logtags.now derived.now.starts.now derived.now.maps.now exprmap.old stacks.old expressions.entry.base (going derived.now.sizes) (told result) exprmap.new stacks.new }
+    requires under { Under function.count exprmap.old stacks.old function.base (going derived.now.sizes) }
+    requires drawn { Drawn function.source.image.words.now function.source.image.tags.now function.places.now function.count derived.now.maps.now exprmap.old a b }
+    ensures { Lays function.entry.source.image.words.now function.entry.count (each_e (in_range (record { from = a; to = b })) (needs function.entry.source.offset function.entry.source.image.words.now function.entry.source.image.tags.now function.entry.source.image.n function.entry.places.now function.entry.count)) derived.now.log.now derived.now.logtags.now derived.now.starts.now derived.now.maps.now exprmap.old stacks.old function.entry.base (going derived.now.sizes) (told result) exprmap.new stacks.new }
 {
     let mut e = derived.sizes;
     for y in a..b {
         if exprmap[y] == 0 {
             e = append(
-                source,
-                expressions,
+                function,
                 &Derived {
                     sizes: e,
                     ..*derived
@@ -136,8 +124,7 @@ fn second_pass(
 
 // Both passes of an Emit over the expressions from a to b; its new start is how many expressions are made before the second.
 fn emit(
-    source: ShaderSource,
-    expressions: ExpressionIndex,
+    function: ShaderFunction,
     derived: &mut DerivedMut,
     exprmap: &mut ExprMap,
     stacks: &mut StackRows,
@@ -145,25 +132,17 @@ fn emit(
     a: usize,
     b: usize,
 ) -> Result<Sizes, Full>
-    requires ground { Ground source.image.words.now source.image.tags.now target_bytes source.image.n }
-    requires expressions { Expressions source.image.words.now source.image.tags.now expressions.places.now expressions.count }
-    requires b_le_k { b ≤ expressions.count }
+    requires ground { Ground function.source.image.words.now function.source.image.tags.now target_bytes function.source.image.n }
+    requires expressions { Expressions function.source.image.words.now function.source.image.tags.now function.places.now function.count }
+    requires b_le_k { b ≤ function.count }
     requires valid_arrays { Valid derived.old ends }
-    requires under { Under expressions.count exprmap.old stacks.old expressions.base (going ends) }
-    ensures { Passes source.entry.image.words.now expressions.entry.count (both source.entry.offset (mod_of source.entry.image.words.now source.entry.image.n) still (needs source.entry.offset source.entry.image.words.now source.entry.image.tags.now source.entry.image.n expressions.entry.places.now expressions.entry.count) (glances source.entry.offset source.entry.image.words.now source.entry.image.tags.now source.entry.image.n expressions.entry.places.now expressions.entry.count) a b) (λ (m : Builder). length (first source.entry.offset (mod_of source.entry.image.words.now source.entry.image.n) still (needs source.entry.offset source.entry.image.words.now source.entry.image.tags.now source.entry.image.n expressions.entry.places.now expressions.entry.count) (glances source.entry.offset source.entry.image.words.now source.entry.image.tags.now source.entry.image.n expressions.entry.places.now expressions.entry.count) a b m).made ∷ []) derived.old exprmap.old stacks.old expressions.entry.base ends result derived.new exprmap.new stacks.new }
+    requires under { Under function.count exprmap.old stacks.old function.base (going ends) }
+    ensures { Passes function.entry.source.image.words.now function.entry.count (both function.entry.source.offset (mod_of function.entry.source.image.words.now function.entry.source.image.n) still (needs function.entry.source.offset function.entry.source.image.words.now function.entry.source.image.tags.now function.entry.source.image.n function.entry.places.now function.entry.count) (glances function.entry.source.offset function.entry.source.image.words.now function.entry.source.image.tags.now function.entry.source.image.n function.entry.places.now function.entry.count) a b) (λ (m : Builder). length (first function.entry.source.offset (mod_of function.entry.source.image.words.now function.entry.source.image.n) still (needs function.entry.source.offset function.entry.source.image.words.now function.entry.source.image.tags.now function.entry.source.image.n function.entry.places.now function.entry.count) (glances function.entry.source.offset function.entry.source.image.words.now function.entry.source.image.tags.now function.entry.source.image.n function.entry.places.now function.entry.count) a b m).made ∷ []) derived.old exprmap.old stacks.old function.entry.base ends result derived.new exprmap.new stacks.new }
 {
-    let got = first_pass(source, expressions, derived, exprmap, stacks, ends, a, b)?;
+    let got = first_pass(function, derived, exprmap, stacks, ends, a, b)?;
     let from = got.made as u32;
     let put = push(stacks, got, from)?;
-    second_pass(
-        source,
-        expressions,
-        &derived.view(put),
-        exprmap,
-        stacks,
-        a,
-        b,
-    )
+    second_pass(function, &derived.view(put), exprmap, stacks, a, b)
 }
 
 // The expression that the first code of an atomic function, from i on, compares, if it compares one.
@@ -185,8 +164,7 @@ fn compare_operand(image: Image, i: usize, end: usize) -> Option<u32>
 
 // What an atomic statement compares, where its kind is word i.
 fn import_compare(
-    source: ShaderSource,
-    expressions: ExpressionIndex,
+    function: ShaderFunction,
     derived: &mut DerivedMut,
     exprmap: &mut ExprMap,
     stacks: &mut StackRows,
@@ -194,34 +172,25 @@ fn import_compare(
     i: usize,
     end: usize,
 ) -> Result<Sizes, Full>
-    requires ground { Ground source.image.words.now source.image.tags.now target_bytes source.image.n }
-    requires expressions { Expressions source.image.words.now source.image.tags.now expressions.places.now expressions.count }
-    requires legible { (Legible source.image.words.now source.image.tags.now expressions.count i end) × (i < end) }
+    requires ground { Ground function.source.image.words.now function.source.image.tags.now target_bytes function.source.image.n }
+    requires expressions { Expressions function.source.image.words.now function.source.image.tags.now function.places.now function.count }
+    requires legible { (Legible function.source.image.words.now function.source.image.tags.now function.count i end) × (i < end) }
     requires valid_arrays { Valid derived.old ends }
-    requires under { Under expressions.count exprmap.old stacks.old expressions.base (going ends) }
-    ensures { Builds source.entry.image.words.now expressions.entry.count (early source.entry.offset (mod_of source.entry.image.words.now source.entry.image.n) still (needs source.entry.offset source.entry.image.words.now source.entry.image.tags.now source.entry.image.n expressions.entry.places.now expressions.entry.count) (glances source.entry.offset source.entry.image.words.now source.entry.image.tags.now source.entry.image.n expressions.entry.places.now expressions.entry.count) (get_or source.entry.image.words.now i 0) (between source.entry.image.tags.now source.entry.image.words.now (suc i) end)) derived.old exprmap.old stacks.old expressions.entry.base ends result derived.new exprmap.new stacks.new }
+    requires under { Under function.count exprmap.old stacks.old function.base (going ends) }
+    ensures { Builds function.entry.source.image.words.now function.entry.count (early function.entry.source.offset (mod_of function.entry.source.image.words.now function.entry.source.image.n) still (needs function.entry.source.offset function.entry.source.image.words.now function.entry.source.image.tags.now function.entry.source.image.n function.entry.places.now function.entry.count) (glances function.entry.source.offset function.entry.source.image.words.now function.entry.source.image.tags.now function.entry.source.image.n function.entry.places.now function.entry.count) (get_or function.entry.source.image.words.now i 0) (between function.entry.source.image.tags.now function.entry.source.image.words.now (suc i) end)) derived.old exprmap.old stacks.old function.entry.base ends result derived.new exprmap.new stacks.new }
 {
-    if !atomic(source.image.words[i]) {
+    if !atomic(function.source.image.words[i]) {
         return Ok(ends);
     }
-    let Some(x) = compare_operand(source.image, i + 1, end) else {
+    let Some(x) = compare_operand(function.source.image, i + 1, end) else {
         return Ok(ends);
     };
-    import_operand(
-        source,
-        expressions,
-        derived,
-        exprmap,
-        stacks,
-        ends,
-        x as usize,
-    )
+    import_operand(function, derived, exprmap, stacks, ends, x as usize)
 }
 
 // Imports and writes word i of a body, with the words up to `end` after it; it names no function. u: whether the span last met is undefined.
 pub fn import_word(
-    source: ShaderSource,
-    expressions: ExpressionIndex,
+    function: ShaderFunction,
     derived: &mut DerivedMut,
     exprmap: &mut ExprMap,
     stacks: &mut StackRows,
@@ -230,27 +199,27 @@ pub fn import_word(
     end: usize,
     u: bool,
 ) -> Result<Sizes, Full>
-    requires ground { Ground source.image.words.now source.image.tags.now target_bytes source.image.n }
-    requires expressions { Expressions source.image.words.now source.image.tags.now expressions.places.now expressions.count }
-    requires bodied { (Bodied source.image.words.now source.image.tags.now expressions.count i end) × (i < end) }
+    requires ground { Ground function.source.image.words.now function.source.image.tags.now target_bytes function.source.image.n }
+    requires expressions { Expressions function.source.image.words.now function.source.image.tags.now function.places.now function.count }
+    requires bodied { (Bodied function.source.image.words.now function.source.image.tags.now function.count i end) × (i < end) }
     requires valid_arrays { Valid derived.old ends }
-    requires under { Under expressions.count exprmap.old stacks.old expressions.base (going ends) }
-    ensures { Passes source.entry.image.words.now expressions.entry.count (passed source.entry.offset (mod_of source.entry.image.words.now source.entry.image.n) still (needs source.entry.offset source.entry.image.words.now source.entry.image.tags.now source.entry.image.n expressions.entry.places.now expressions.entry.count) (glances source.entry.offset source.entry.image.words.now source.entry.image.tags.now source.entry.image.n expressions.entry.places.now expressions.entry.count) (get_or source.entry.image.tags.now i 0, get_or source.entry.image.words.now i 0) (between source.entry.image.tags.now source.entry.image.words.now (suc i) end)) (λ (m : Builder). word_of source.entry.offset (mod_of source.entry.image.words.now source.entry.image.n) still (needs source.entry.offset source.entry.image.words.now source.entry.image.tags.now source.entry.image.n expressions.entry.places.now expressions.entry.count) (glances source.entry.offset source.entry.image.words.now source.entry.image.tags.now source.entry.image.n expressions.entry.places.now expressions.entry.count) (get_or source.entry.image.tags.now i 0, get_or source.entry.image.words.now i 0) (between source.entry.image.tags.now source.entry.image.words.now (suc i) end) u m ∷ []) derived.old exprmap.old stacks.old expressions.entry.base ends result derived.new exprmap.new stacks.new }
+    requires under { Under function.count exprmap.old stacks.old function.base (going ends) }
+    ensures { Passes function.entry.source.image.words.now function.entry.count (passed function.entry.source.offset (mod_of function.entry.source.image.words.now function.entry.source.image.n) still (needs function.entry.source.offset function.entry.source.image.words.now function.entry.source.image.tags.now function.entry.source.image.n function.entry.places.now function.entry.count) (glances function.entry.source.offset function.entry.source.image.words.now function.entry.source.image.tags.now function.entry.source.image.n function.entry.places.now function.entry.count) (get_or function.entry.source.image.tags.now i 0, get_or function.entry.source.image.words.now i 0) (between function.entry.source.image.tags.now function.entry.source.image.words.now (suc i) end)) (λ (m : Builder). word_of function.entry.source.offset (mod_of function.entry.source.image.words.now function.entry.source.image.n) still (needs function.entry.source.offset function.entry.source.image.words.now function.entry.source.image.tags.now function.entry.source.image.n function.entry.places.now function.entry.count) (glances function.entry.source.offset function.entry.source.image.words.now function.entry.source.image.tags.now function.entry.source.image.n function.entry.places.now function.entry.count) (get_or function.entry.source.image.tags.now i 0, get_or function.entry.source.image.words.now i 0) (between function.entry.source.image.tags.now function.entry.source.image.words.now (suc i) end) u m ∷ []) derived.old exprmap.old stacks.old function.entry.base ends result derived.new exprmap.new stacks.new }
 {
-    match source.image.tags[i] {
+    match function.source.image.tags[i] {
         FROM => {
-            let a = source.image.words[i] as usize;
-            let b = source.image.words[i + 1] as usize;
-            emit(source, expressions, derived, exprmap, stacks, ends, a, b)
+            let a = function.source.image.words[i] as usize;
+            let b = function.source.image.words[i + 1] as usize;
+            emit(function, derived, exprmap, stacks, ends, a, b)
         }
         TO => push(stacks, ends, ends.made as u32),
         STMT_KIND => {
-            let got = import_compare(source, expressions, derived, exprmap, stacks, ends, i, end)?;
-            push(stacks, got, source.image.words[i])
+            let got = import_compare(function, derived, exprmap, stacks, ends, i, end)?;
+            push(stacks, got, function.source.image.words[i])
         }
         _ => {
-            let got = import_body_word(source, expressions, derived, exprmap, stacks, ends, i)?;
-            put_word(source, &derived.view(got), exprmap, stacks, i, u)
+            let got = import_body_word(function, derived, exprmap, stacks, ends, i)?;
+            put_word(function.source, &derived.view(got), exprmap, stacks, i, u)
         }
     }
 }

@@ -12,9 +12,8 @@ ghost use Rattle.intake_blocks.specs.Found.{place_of, kept_of, flow_of, StmtHere
 
 use base_classes::BLOCK;
 use base_kinds::{BREAK, CONTINUE, EMIT, LOOP, RETURN, SWITCH};
-use base_views::Image;
 use base_words::Words;
-use intake_statements::{emit, read, simple};
+use intake_statements::{Expressions, emit, read, simple};
 
 // Which statements may stand at a place: a Break, a Continue, a Return.
 #[derive(Clone, Copy)]
@@ -69,29 +68,26 @@ fn skip(words: &Words, at: usize) -> usize
 // A statement with blocks that is no Loop: its reads, and its blocks.
 #[cycle(block_looped_parts_stmt)]
 fn parts(
-    image: Image,
-    starts: &[u32; 1025],
-    initial: &[u8; 1024],
+    expressions: Expressions,
     until: &mut [usize; 1024],
-    count: usize,
     at: usize,
     stop: usize,
     keep: usize,
     place: Place,
 ) -> Option<Flow>
-    requires stmt_here { StmtHere image.words.now image.tags.now starts.now count at stop keep }
-    requires nonzero { (0 < get_or image.words.now (at + 1) 0) × (get_or image.words.now (at + 1) 0 < 4) }
-    requires breaks_value { get_or image.words.now (at + 1) 0 ≡ 3 → place.breaks ≡ true }
-    ensures { FoundS image.entry.words.now image.entry.tags.now starts.now initial.now count at stop keep (place_of place.breaks place.continues place.returns) until.old until.new result }
+    requires stmt_here { StmtHere expressions.image.words.now expressions.image.tags.now expressions.starts.now expressions.count at stop keep }
+    requires nonzero { (0 < get_or expressions.image.words.now (at + 1) 0) × (get_or expressions.image.words.now (at + 1) 0 < 4) }
+    requires breaks_value { get_or expressions.image.words.now (at + 1) 0 ≡ 3 → place.breaks ≡ true }
+    ensures { FoundS expressions.entry.image.words.now expressions.entry.image.tags.now expressions.entry.starts.now expressions.entry.initial.now expressions.entry.count at stop keep (place_of place.breaks place.continues place.returns) until.old until.new result }
 {
     let mut i = at + 4;
     let mut flow = Flow::Through;
     while i < stop {
-        if image.tags[i] == BLOCK {
-            let fin = skip(image.words, i);
-            flow = flow.then(block(image, starts, initial, until, count, i, fin, fin, place)?);
+        if expressions.image.tags[i] == BLOCK {
+            let fin = skip(expressions.image.words, i);
+            flow = flow.then(block(expressions, until, i, fin, fin, place)?);
             i = fin;
-        } else if read(image, starts, until, count, i, i) {
+        } else if read(expressions, until, i, i) {
             i += 1;
         } else {
             return None;
@@ -103,19 +99,16 @@ fn parts(
 // A Loop: its body, its continuing block, in which none of the three may stand, and what its break_if reads.
 #[cycle(block_looped_parts_stmt)]
 fn looped(
-    image: Image,
-    starts: &[u32; 1025],
-    initial: &[u8; 1024],
+    expressions: Expressions,
     until: &mut [usize; 1024],
-    count: usize,
     at: usize,
     stop: usize,
     keep: usize,
     place: Place,
 ) -> Option<Flow>
-    requires stmt_here { StmtHere image.words.now image.tags.now starts.now count at stop keep }
-    requires at_value { get_or image.words.now (at + 1) 0 ≡ 4 }
-    ensures { FoundS image.entry.words.now image.entry.tags.now starts.now initial.now count at stop keep (place_of place.breaks place.continues place.returns) until.old until.new result }
+    requires stmt_here { StmtHere expressions.image.words.now expressions.image.tags.now expressions.starts.now expressions.count at stop keep }
+    requires at_value { get_or expressions.image.words.now (at + 1) 0 ≡ 4 }
+    ensures { FoundS expressions.entry.image.words.now expressions.entry.image.tags.now expressions.entry.starts.now expressions.entry.initial.now expressions.entry.count at stop keep (place_of place.breaks place.continues place.returns) until.old until.new result }
 {
     let inside = Place {
         breaks: true,
@@ -128,98 +121,80 @@ fn looped(
         returns: false,
     };
     let body = at + 4;
-    let continuing = skip(image.words, body);
-    block(
-        image, starts, initial, until, count, body, continuing, stop, inside,
-    )?;
-    let break_if = skip(image.words, continuing);
-    block(
-        image, starts, initial, until, count, continuing, break_if, stop, bare,
-    )?;
-    read(image, starts, until, count, break_if, break_if).then_some(Flow::Through)
+    let continuing = skip(expressions.image.words, body);
+    block(expressions, until, body, continuing, stop, inside)?;
+    let break_if = skip(expressions.image.words, continuing);
+    block(expressions, until, continuing, break_if, stop, bare)?;
+    read(expressions, until, break_if, break_if).then_some(Flow::Through)
 }
 
 // The statement from the word `at` to the word `stop`.
 #[cycle(block_looped_parts_stmt)]
 fn stmt(
-    image: Image,
-    starts: &[u32; 1025],
-    initial: &[u8; 1024],
+    expressions: Expressions,
     until: &mut [usize; 1024],
-    count: usize,
     at: usize,
     stop: usize,
     keep: usize,
     place: Place,
 ) -> Option<Flow>
-    requires { StmtHere image.words.now image.tags.now starts.now count at stop keep }
-    ensures { FoundS image.entry.words.now image.entry.tags.now starts.now initial.now count at stop keep (place_of place.breaks place.continues place.returns) until.old until.new result }
+    requires { StmtHere expressions.image.words.now expressions.image.tags.now expressions.starts.now expressions.count at stop keep }
+    ensures { FoundS expressions.entry.image.words.now expressions.entry.image.tags.now expressions.entry.starts.now expressions.entry.initial.now expressions.entry.count at stop keep (place_of place.breaks place.continues place.returns) until.old until.new result }
 {
-    match image.words[at + 1] {
-        EMIT => emit(image, starts, initial, until, count, at, keep).then_some(Flow::Through),
+    match expressions.image.words[at + 1] {
+        EMIT => emit(expressions, until, at, keep).then_some(Flow::Through),
         // A Block or an If.
-        ..SWITCH => parts(image, starts, initial, until, count, at, stop, keep, place),
+        ..SWITCH => parts(expressions, until, at, stop, keep, place),
         SWITCH => {
             let inside = Place {
                 breaks: true,
                 ..place
             };
-            parts(image, starts, initial, until, count, at, stop, keep, inside)
+            parts(expressions, until, at, stop, keep, inside)
         }
-        LOOP => looped(image, starts, initial, until, count, at, stop, keep, place),
+        LOOP => looped(expressions, until, at, stop, keep, place),
         BREAK => place.breaks.then_some(Flow::Through),
         CONTINUE => place.continues.then_some(Flow::Continues),
         RETURN if !place.returns => None,
-        _ => simple(image, starts, until, count, at, stop, keep).then_some(Flow::Through),
+        _ => simple(expressions, until, at, stop, keep).then_some(Flow::Through),
     }
 }
 
 // The block from the word `at` to the word `fin`, whose evaluations stay up to the word `keep`, or up to its end from its first Continue on.
 #[cycle(block_looped_parts_stmt)]
 fn block(
-    image: Image,
-    starts: &[u32; 1025],
-    initial: &[u8; 1024],
+    expressions: Expressions,
     until: &mut [usize; 1024],
-    count: usize,
     at: usize,
     fin: usize,
     keep: usize,
     place: Place,
 ) -> Option<Flow>
-    requires { BlockHere image.words.now image.tags.now starts.now count at fin keep }
-    ensures { FoundB image.entry.words.now image.entry.tags.now starts.now initial.now count at fin keep (place_of place.breaks place.continues place.returns) until.old until.new result }
+    requires { BlockHere expressions.image.words.now expressions.image.tags.now expressions.starts.now expressions.count at fin keep }
+    ensures { FoundB expressions.entry.image.words.now expressions.entry.image.tags.now expressions.entry.starts.now expressions.entry.initial.now expressions.entry.count at fin keep (place_of place.breaks place.continues place.returns) until.old until.new result }
 {
     let mut i = at + 1;
     let mut flow = Flow::Through;
     while i < fin {
-        let stop = i + image.words[i] as usize;
+        let stop = i + expressions.image.words[i] as usize;
         let kept = flow.kept(keep, fin);
-        flow = flow.then(stmt(image, starts, initial, until, count, i, stop, kept, place)?);
+        flow = flow.then(stmt(expressions, until, i, stop, kept, place)?);
         i = stop;
     }
     Some(flow)
 }
 
-// Is the body from the word `at` to the word `end` in scope? Nothing is evaluated where it begins. What `until` has past its first `count` numbers is left
-// from another function, and is not read.
-pub fn body(
-    image: Image,
-    starts: &[u32; 1025],
-    initial: &[u8; 1024],
-    until: &mut [usize; 1024],
-    count: usize,
-    at: usize,
-    end: usize,
-) -> bool
-    requires block_here { BlockHere image.words.now image.tags.now starts.now count at end end }
-    ensures { result ≡ fine_b (exprs_of image.entry.words.now image.entry.tags.now starts.now count) (marks image.entry.words.now image.entry.tags.now starts.now count initial.now) (block_of image.entry.words.now image.entry.tags.now at end) in_body [] [] }
+// Is the body from the word `at` to the word `end` in scope? Nothing is evaluated where it begins. What `until` has past its first `expressions.count` numbers
+// is left from another function, and is not read.
+pub fn body(expressions: Expressions, until: &mut [usize; 1024], at: usize, end: usize) -> bool
+    requires block_here { BlockHere expressions.image.words.now expressions.image.tags.now expressions.starts.now expressions.count at end end }
+    ensures { result ≡ fine_b (exprs_of expressions.entry.image.words.now expressions.entry.image.tags.now expressions.entry.starts.now expressions.entry.count) (marks expressions.entry.image.words.now expressions.entry.image.tags.now expressions.entry.starts.now expressions.entry.count expressions.entry.initial.now) (block_of expressions.entry.image.words.now expressions.entry.image.tags.now at end) in_body [] [] }
 {
     let place = Place {
         breaks: false,
         continues: false,
         returns: true,
     };
-    until[..count].fill(0);
-    block(image, starts, initial, until, count, at, end, end, place).is_some()
+    until[..expressions.count].fill(0);
+    block(expressions, until, at, end, end, place).is_some()
 }

@@ -10,6 +10,7 @@ use base_views::{ENTRIES, ENTRY_HEAD, FUNCTIONS, Image, expressions_at, locals_a
 use intake_blocks::body;
 use intake_initialisers::{places, reach, roots};
 use intake_numbers::all_functions;
+use intake_statements::Expressions;
 
 // The large arrays that a pass works in, made once for an image and used by one function after the other: where expressions start, which are still to be
 // visited, and up to which word each is in scope. The first two are written before they are read, and each body clears as much of the last as its function
@@ -48,15 +49,15 @@ fn scoped(image: Image, scratch: &mut Scratch, locals: usize, exprs: usize, end:
     );
     let named = scratch.starts[e] as usize;
     let at = named + 1 + 2 * (image.words[named] as usize);
-    body(
+    // lent first: the borrow checker does not cover it lent after the arrays that go into the struct
+    let until = &mut scratch.until;
+    let expressions = Expressions {
         image,
-        &scratch.starts,
-        &initial,
-        &mut scratch.until,
-        e,
-        at,
-        end,
-    )
+        starts: &scratch.starts,
+        initial: &initial,
+        count: e,
+    };
+    body(expressions, until, at, end)
 }
 
 // The same of the record from `at` to `end` whose function starts at `from`.

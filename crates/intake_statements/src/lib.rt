@@ -16,97 +16,81 @@ use base_kinds::{
     emits, stands,
 };
 use base_views::Image;
-use base_words::Words;
+
+// The expressions of a function whose body is read: where each of them starts, and after the last one where they end; which are an initialiser's; and how many
+// they are.
+#[derive(Clone, Copy)]
+pub struct Expressions<'a> {
+    pub image: Image<'a>,
+    pub starts: &'a [u32; 1025],
+    pub initial: &'a [u8; 1024],
+    pub count: usize,
+}
 
 // The kind of expression e.
-fn kind(words: &Words, starts: &[u32; 1025], e: usize) -> u32
+fn kind(expressions: Expressions, e: usize) -> u32
     requires e_bound { e < 1025 }
-    requires e_bound_2 { get_or starts.now e 0 < 16384 }
-    ensures { result ≡ get_or words.now (get_or starts.now e 0) 0 }
+    requires e_bound_2 { get_or expressions.starts.now e 0 < 16384 }
+    ensures { result ≡ get_or expressions.entry.image.words.now (get_or expressions.entry.starts.now e 0) 0 }
 {
-    words[starts[e] as usize]
+    expressions.image.words[expressions.starts[e] as usize]
 }
 
 // Is expression e in scope at the word `at`?
-fn visible(
-    words: &Words,
-    starts: &[u32; 1025],
-    until: &[usize; 1024],
-    count: usize,
-    at: usize,
-    e: usize,
-) -> bool
-    requires { Placed starts.now count }
-    ensures { result ≡ visible_at words.now starts.now until.now count at e }
+fn visible(expressions: Expressions, until: &[usize; 1024], at: usize, e: usize) -> bool
+    requires { Placed expressions.starts.now expressions.count }
+    ensures { result ≡ visible_at expressions.entry.image.words.now expressions.entry.starts.now until.now expressions.entry.count at e }
 {
     // a ladder: the second test has a name, so that an edit of it leaves the goals their names, and it reads what only the first allows
-    if count <= e {
+    if expressions.count <= e {
         return false;
     }
     let live = at < until[e];
-    live || stands(kind(words, starts, e))
+    live || stands(kind(expressions, e))
 }
 
 // Does the word j read only what is in scope at the word `at`?
-pub fn read(
-    image: Image,
-    starts: &[u32; 1025],
-    until: &[usize; 1024],
-    count: usize,
-    at: usize,
-    j: usize,
-) -> bool
-    requires placed { Placed starts.now count }
+pub fn read(expressions: Expressions, until: &[usize; 1024], at: usize, j: usize) -> bool
+    requires placed { Placed expressions.starts.now expressions.count }
     requires j_bound { j < 16384 }
-    ensures { result ≡ all_seen (operand (get_or image.entry.tags.now j 0) (get_or image.entry.words.now j 0) []) (visible_at image.entry.words.now starts.now until.now count at) }
+    ensures { result ≡ all_seen (operand (get_or expressions.entry.image.tags.now j 0) (get_or expressions.entry.image.words.now j 0) []) (visible_at expressions.entry.image.words.now expressions.entry.starts.now until.now expressions.entry.count at) }
 {
-    let w = image.words[j] as usize;
-    match image.tags[j] {
-        EXPR => visible(image.words, starts, until, count, at, w),
-        OPT_EXPR => w == 0 || visible(image.words, starts, until, count, at, w - 1),
+    let w = expressions.image.words[j] as usize;
+    match expressions.image.tags[j] {
+        EXPR => visible(expressions, until, at, w),
+        OPT_EXPR => w == 0 || visible(expressions, until, at, w - 1),
         _ => true,
     }
 }
 
 // The same of the words from `from` to `to`.
-fn reads(
-    image: Image,
-    starts: &[u32; 1025],
-    until: &[usize; 1024],
-    count: usize,
-    at: usize,
-    from: usize,
-    to: usize,
-) -> bool
-    requires placed { Placed starts.now count }
+fn reads(expressions: Expressions, until: &[usize; 1024], at: usize, from: usize, to: usize) -> bool
+    requires placed { Placed expressions.starts.now expressions.count }
     requires to_bound { to ≤ 16384 }
-    ensures { result ≡ all_seen (ops_of (cells_in image.entry.words.now image.entry.tags.now from to)) (visible_at image.entry.words.now starts.now until.now count at) }
+    ensures { result ≡ all_seen (ops_of (cells_in expressions.entry.image.words.now expressions.entry.image.tags.now from to)) (visible_at expressions.entry.image.words.now expressions.entry.starts.now until.now expressions.entry.count at) }
 {
-    (from..to).all(|j| read(image, starts, until, count, at, j))
+    (from..to).all(|j| read(expressions, until, at, j))
 }
 
 // Expression e of an Emit at the word `at`, in scope up to the word `keep`.
 fn evaluated(
-    image: Image,
-    starts: &[u32; 1025],
-    initial: &[u8; 1024],
+    expressions: Expressions,
     until: &mut [usize; 1024],
-    count: usize,
     at: usize,
     keep: usize,
     e: usize,
 ) -> bool
-    requires exprs { Exprs image.words.now image.tags.now starts.now count }
+    requires exprs { Exprs expressions.image.words.now expressions.image.tags.now expressions.starts.now expressions.count }
     requires at_lt_keep { at < keep }
-    requires e_lt_count { e < count }
-    ensures { FoundE image.entry.words.now image.entry.tags.now starts.now initial.now count at keep e until.old until.new result }
+    requires e_lt_count { e < expressions.count }
+    ensures { FoundE expressions.entry.image.words.now expressions.entry.image.tags.now expressions.entry.starts.now expressions.entry.initial.now expressions.entry.count at keep e until.old until.new result }
 {
-    let from = starts[e] as usize;
-    let to = starts[e + 1] as usize;
-    let initialiser = initial[e] != 0;
-    let fine = emits(kind(image.words, starts, e))
+    let from = expressions.starts[e] as usize;
+    let to = expressions.starts[e + 1] as usize;
+    let initialiser = expressions.initial[e] != 0;
+    let fine = emits(kind(expressions, e))
         && until[e] == 0
-        && (initialiser || reads(image, starts, until, count, at, from, to));
+        && (initialiser || reads(expressions, until, at, from, to));
     if fine {
         until[e] = if initialiser { 1 } else { keep };
     }
@@ -114,23 +98,15 @@ fn evaluated(
 }
 
 // The Emit at the word `at`.
-pub fn emit(
-    image: Image,
-    starts: &[u32; 1025],
-    initial: &[u8; 1024],
-    until: &mut [usize; 1024],
-    count: usize,
-    at: usize,
-    keep: usize,
-) -> bool
-    requires exprs { Exprs image.words.now image.tags.now starts.now count }
+pub fn emit(expressions: Expressions, until: &mut [usize; 1024], at: usize, keep: usize) -> bool
+    requires exprs { Exprs expressions.image.words.now expressions.image.tags.now expressions.starts.now expressions.count }
     requires at_lt_keep { at < keep }
     requires at_bound { at + 5 < 16384 }
-    requires at_bound_2 { get_or image.words.now (at + 5) 0 ≤ count }
-    ensures { FoundR image.entry.words.now image.entry.tags.now starts.now initial.now count at keep (get_or image.entry.words.now (at + 4) 0) (get_or image.entry.words.now (at + 5) 0) until.old until.new result }
+    requires at_bound_2 { get_or expressions.image.words.now (at + 5) 0 ≤ expressions.count }
+    ensures { FoundR expressions.entry.image.words.now expressions.entry.image.tags.now expressions.entry.starts.now expressions.entry.initial.now expressions.entry.count at keep (get_or expressions.entry.image.words.now (at + 4) 0) (get_or expressions.entry.image.words.now (at + 5) 0) until.old until.new result }
 {
-    for e in image.words[at + 4] as usize..image.words[at + 5] as usize {
-        if !evaluated(image, starts, initial, until, count, at, keep, e) {
+    for e in expressions.image.words[at + 4] as usize..expressions.image.words[at + 5] as usize {
+        if !evaluated(expressions, until, at, keep, e) {
             return false;
         }
     }
@@ -153,15 +129,16 @@ fn result_of(image: Image, from: usize, to: usize) -> Option<u32>
 }
 
 // Is expression e a result that the statement at the word `at` may have?
-fn result_fits(image: Image, starts: &[u32; 1025], count: usize, at: usize, e: usize) -> bool
-    requires exprs { Exprs image.words.now image.tags.now starts.now count }
+fn result_fits(expressions: Expressions, at: usize, e: usize) -> bool
+    requires exprs { Exprs expressions.image.words.now expressions.image.tags.now expressions.starts.now expressions.count }
     requires at_bound { at + 4 < 16384 }
-    requires e_lt_count { e < count }
-    ensures { result ≡ fits_result (exprs_of image.entry.words.now image.entry.tags.now starts.now count) (get_or image.entry.words.now (at + 1) 0) (get_or image.entry.words.now (at + 4) 0) (some e) }
+    requires e_lt_count { e < expressions.count }
+    ensures { result ≡ fits_result (exprs_of expressions.entry.image.words.now expressions.entry.image.tags.now expressions.entry.starts.now expressions.entry.count) (get_or expressions.entry.image.words.now (at + 1) 0) (get_or expressions.entry.image.words.now (at + 4) 0) (some e) }
 {
-    let k = kind(image.words, starts, e);
-    match image.words[at + 1] {
-        CALL => k == CALL_RESULT && image.words[starts[e] as usize + 3] == image.words[at + 4],
+    let words = expressions.image.words;
+    let k = kind(expressions, e);
+    match words[at + 1] {
+        CALL => k == CALL_RESULT && words[expressions.starts[e] as usize + 3] == words[at + 4],
         WORK_GROUP_UNIFORM_LOAD => k == WORK_GROUP_UNIFORM_LOAD_RESULT,
         _ => k == ATOMIC_RESULT,
     }
@@ -169,26 +146,24 @@ fn result_fits(image: Image, starts: &[u32; 1025], count: usize, at: usize, e: u
 
 // The result of the statement from the word `at` to the word `stop`.
 fn result(
-    image: Image,
-    starts: &[u32; 1025],
+    expressions: Expressions,
     until: &mut [usize; 1024],
-    count: usize,
     at: usize,
     stop: usize,
     keep: usize,
 ) -> bool
-    requires exprs { Exprs image.words.now image.tags.now starts.now count }
+    requires exprs { Exprs expressions.image.words.now expressions.image.tags.now expressions.starts.now expressions.count }
     requires stop_le_keep { stop ≤ keep }
     requires stop_bound { stop ≤ 16384 }
     requires at_bound { at + 4 ≤ stop }
-    ensures { FoundO image.entry.words.now image.entry.tags.now starts.now count at stop keep until.old until.new result }
+    ensures { FoundO expressions.entry.image.words.now expressions.entry.image.tags.now expressions.entry.starts.now expressions.entry.count at stop keep until.old until.new result }
 {
     // an early return where nothing is evaluated: the rest as an arm of a match is no plainer
-    let Some(e) = result_of(image, at + 4, stop) else {
+    let Some(e) = result_of(expressions.image, at + 4, stop) else {
         return true;
     };
     let e = e as usize;
-    let fine = e < count && result_fits(image, starts, count, at, e) && until[e] == 0;
+    let fine = e < expressions.count && result_fits(expressions, at, e) && until[e] == 0;
     if fine {
         until[e] = keep;
     }
@@ -197,20 +172,17 @@ fn result(
 
 // A statement without blocks that is no Emit: its reads, and its result.
 pub fn simple(
-    image: Image,
-    starts: &[u32; 1025],
+    expressions: Expressions,
     until: &mut [usize; 1024],
-    count: usize,
     at: usize,
     stop: usize,
     keep: usize,
 ) -> bool
-    requires exprs { Exprs image.words.now image.tags.now starts.now count }
+    requires exprs { Exprs expressions.image.words.now expressions.image.tags.now expressions.starts.now expressions.count }
     requires stop_le_keep { stop ≤ keep }
     requires stop_bound { stop ≤ 16384 }
     requires at_bound { at + 4 ≤ stop }
-    ensures { FoundL image.entry.words.now image.entry.tags.now starts.now count at stop keep until.old until.new result }
+    ensures { FoundL expressions.entry.image.words.now expressions.entry.image.tags.now expressions.entry.starts.now expressions.entry.count at stop keep until.old until.new result }
 {
-    reads(image, starts, until, count, at, at + 4, stop)
-        && result(image, starts, until, count, at, stop, keep)
+    reads(expressions, until, at, at + 4, stop) && result(expressions, until, at, stop, keep)
 }

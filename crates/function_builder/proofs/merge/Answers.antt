@@ -23,7 +23,7 @@ pub bounds-exprmap-e : goal.bounds-exprmap-e
 bounds-exprmap-e c = let X = c.requires.expressions in let h = c.requires.e_lt_k in let f = X.few in omega arith
 
 pub returns-in-Some : goal.returns-in-Some
-returns-in-Some c = let a = c.args in merge_old a.source.image.words.now a.source.image.tags.now a.expressions.places.now a.source.image.n a.expressions.count c.requires.expressions a.derived.now.log.now a.derived.now.logtags.now a.derived.now.starts.now a.derived.now.maps.now a.exprmap.now a.stacks.now (going a.derived.now.sizes) a.source.offset a.expressions.base a.e c.requires.e_lt_k refl c.requires.under _ _ refl refl c.in-Some.j c.in-Some.ensures.1 c.in-Some.ensures.0
+returns-in-Some c = let a = c.args in merge_old a.function.source.image.words.now a.function.source.image.tags.now a.function.places.now a.function.source.image.n a.function.count c.requires.expressions a.derived.now.log.now a.derived.now.logtags.now a.derived.now.starts.now a.derived.now.maps.now a.exprmap.now a.stacks.now (going a.derived.now.sizes) a.function.source.offset a.function.base a.e c.requires.e_lt_k refl c.requires.under _ _ refl refl c.in-Some.j c.in-Some.ensures.1 c.in-Some.ensures.0
 
 pub returns : goal.returns
-returns c = let a = c.args in merge_new a.source.image.words.now a.source.image.tags.now a.expressions.places.now a.source.image.n a.expressions.count c.requires.expressions a.derived.now.log.now a.derived.now.logtags.now a.derived.now.starts.now a.derived.now.maps.now a.exprmap.now a.stacks.now (going a.derived.now.sizes) a.source.offset a.expressions.base a.e c.requires.e_lt_k refl c.requires.under _ _ refl refl _ c.in_default.ensures (le_refl _) _ _ _ c.append.ensures
+returns c = let a = c.args in merge_new a.function.source.image.words.now a.function.source.image.tags.now a.function.places.now a.function.source.image.n a.function.count c.requires.expressions a.derived.now.log.now a.derived.now.logtags.now a.derived.now.starts.now a.derived.now.maps.now a.exprmap.now a.stacks.now (going a.derived.now.sizes) a.function.source.offset a.function.base a.e c.requires.e_lt_k refl c.requires.under _ _ refl refl _ c.in_default.ensures (le_refl _) _ _ _ c.append.ensures

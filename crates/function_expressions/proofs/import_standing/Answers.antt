@@ -9,25 +9,25 @@ use Rattle.derive_state.proofs.State.{arrays_same, arrays_then}
 use Rattle.function_expressions.proofs.import_standing.Goals as goal
 
 pub returns-then-exprmap-e-ne0 : goal.returns-then-exprmap-e-ne0
-returns-then-exprmap-e-ne0 c = record { does = let a = c.args in glance-idle c.requires.expressions a.source.image.n a.source.offset refl c.requires.valid_arrays c.requires.under c.requires.e_lt_k c.if-exprmap-e-ne0.true; same = arrays_same _ }
+returns-then-exprmap-e-ne0 c = record { does = let a = c.args in glance-idle c.requires.expressions a.function.source.image.n a.function.source.offset refl c.requires.valid_arrays c.requires.under c.requires.e_lt_k c.if-exprmap-e-ne0.true; same = arrays_same _ }
 
 pub loop-j-init : goal.loop-j-init
 loop-j-init c = (along-begin c.requires.valid_arrays (cells_legible c.requires.expressions c.requires.e_lt_k refl refl) refl c.requires.under, arrays_same _)
 
-pub bounds-source-j : goal.bounds-source-j
-bounds-source-j c = along_in c.requires.valid_arrays c.loop-j.invariant.0 c.loop-j-test.true
+pub bounds-function-j : goal.bounds-function-j
+bounds-function-j c = along_in c.requires.valid_arrays c.loop-j.invariant.0 c.loop-j-test.true
 
-pub offset_bounds-source-j : goal.offset_bounds-source-j
-offset_bounds-source-j c = let z = along_in c.requires.valid_arrays c.loop-j.invariant.0 c.loop-j-test.true in omega arith
+pub offset_bounds-function-j : goal.offset_bounds-function-j
+offset_bounds-function-j c = let z = along_in c.requires.valid_arrays c.loop-j.invariant.0 c.loop-j-test.true in omega arith
 
-pub bounds-source-j-in-loop-j : goal.bounds-source-j-in-loop-j
-bounds-source-j-in-loop-j c = along_in c.requires.valid_arrays c.loop-j.invariant.0 c.loop-j-test.true
+pub bounds-function-j-in-loop-j : goal.bounds-function-j-in-loop-j
+bounds-function-j-in-loop-j c = along_in c.requires.valid_arrays c.loop-j.invariant.0 c.loop-j-test.true
 
 pub import_record-requires : goal.import_record-requires
 import_record-requires c = let inv = c.loop-j.invariant.0 in let q = c.in-Some.ensures in record { ground = c.requires.ground; r_bound = (q.2, along_number c.requires.valid_arrays inv c.loop-j-test.true refl q.0 q.1 c.if-s-lt-EXPR.true q.2); valid_arrays = along-kept c.requires.valid_arrays inv }
 
 pub returns-in_err-got : goal.returns-in_err-got
-returns-in_err-got c = let p = err_from_is_err_and c.from_residual.result c.from_residual.ensures.1 in rw (p.1, p.2) (record { does = let a = c.args in let inv = c.loop-j.invariant.0 in let less = c.loop-j-test.true in let q = c.in-Some.ensures in glance_full c.requires.expressions a.source.image.n a.source.offset refl c.requires.valid_arrays c.requires.under c.requires.e_lt_k c.if-exprmap-e-ne0.false refl refl inv less (along_record c.requires.valid_arrays inv less refl q.0 q.1 c.if-s-lt-EXPR.true c.in_err-got.ensures.does) refl; same = arrays_then c.loop-j.invariant.1 c.in_err-got.ensures.same })
+returns-in_err-got c = let p = err_from_is_err_and c.from_residual.result c.from_residual.ensures.1 in rw (p.1, p.2) (record { does = let a = c.args in let inv = c.loop-j.invariant.0 in let less = c.loop-j-test.true in let q = c.in-Some.ensures in glance_full c.requires.expressions a.function.source.image.n a.function.source.offset refl c.requires.valid_arrays c.requires.under c.requires.e_lt_k c.if-exprmap-e-ne0.false refl refl inv less (along_record c.requires.valid_arrays inv less refl q.0 q.1 c.if-s-lt-EXPR.true c.in_err-got.ensures.does) refl; same = arrays_then c.loop-j.invariant.1 c.in_err-got.ensures.same })
 
 pub loop-j-preserved : goal.loop-j-preserved
 loop-j-preserved c =
@@ -46,7 +46,7 @@ pub import_unmapped-requires : goal.import_unmapped-requires
 import_unmapped-requires c = let inv = c.loop-j.invariant.0 in let less = c.loop-j-test.true in let q = c.in-Some.ensures in record { ground = c.requires.ground; expressions = c.requires.expressions; e_lt_k = operand_in c.requires.expressions c.requires.e_lt_k c.requires.valid_arrays inv less refl q.0 (refl ∙ q.1) c.if-s-lt-EXPR.false c.if-r-eq-EXPRESSIONS.true; valid_arrays = along-kept c.requires.valid_arrays inv; under = along_under c.requires.valid_arrays inv }
 
 pub returns-in_err-got-2 : goal.returns-in_err-got-2
-returns-in_err-got-2 c = let p = err_from_is_err_and c.from_residual-in_err-got-2.result c.from_residual-in_err-got-2.ensures.1 in rw (p.1, p.2) (record { does = let a = c.args in let inv = c.loop-j.invariant.0 in let less = c.loop-j-test.true in let q = c.in-Some.ensures in glance_full c.requires.expressions a.source.image.n a.source.offset refl c.requires.valid_arrays c.requires.under c.requires.e_lt_k c.if-exprmap-e-ne0.false refl refl inv less (operand_done c.requires.expressions c.requires.e_lt_k c.requires.valid_arrays inv less refl q.0 (refl ∙ q.1) c.if-s-lt-EXPR.false c.if-r-eq-EXPRESSIONS.true (c.is_unmapped_standing.ensures.e_value c.if-is_unmapped_standing.true).1 c.in_err-got-2.ensures.does) refl; same = arrays_then c.loop-j.invariant.1 c.in_err-got-2.ensures.same })
+returns-in_err-got-2 c = let p = err_from_is_err_and c.from_residual-in_err-got-2.result c.from_residual-in_err-got-2.ensures.1 in rw (p.1, p.2) (record { does = let a = c.args in let inv = c.loop-j.invariant.0 in let less = c.loop-j-test.true in let q = c.in-Some.ensures in glance_full c.requires.expressions a.function.source.image.n a.function.source.offset refl c.requires.valid_arrays c.requires.under c.requires.e_lt_k c.if-exprmap-e-ne0.false refl refl inv less (operand_done c.requires.expressions c.requires.e_lt_k c.requires.valid_arrays inv less refl q.0 (refl ∙ q.1) c.if-s-lt-EXPR.false c.if-r-eq-EXPRESSIONS.true (c.is_unmapped_standing.ensures.e_value c.if-is_unmapped_standing.true).1 c.in_err-got-2.ensures.does) refl; same = arrays_then c.loop-j.invariant.1 c.in_err-got-2.ensures.same })
 
 pub returns : goal.returns
-returns c = record { does = let a = c.args in glance_done c.requires.expressions a.source.image.n a.source.offset refl c.requires.valid_arrays c.requires.under c.requires.e_lt_k c.if-exprmap-e-ne0.false refl refl c.loop-j.invariant.0 c.loop-j-test.false; same = c.loop-j.invariant.1 }
+returns c = record { does = let a = c.args in glance_done c.requires.expressions a.function.source.image.n a.function.source.offset refl c.requires.valid_arrays c.requires.under c.requires.e_lt_k c.if-exprmap-e-ne0.false refl refl c.loop-j.invariant.0 c.loop-j-test.false; same = c.loop-j.invariant.1 }

@@ -10,7 +10,7 @@ use mathlib.Core.Path.{refl}
 use Rattle.function_passes.proofs.emit.Goals as goal
 
 pub returns-in_err-got : goal.returns-in_err-got
-returns-in_err-got c = let p = err_from_is_err_and c.from_residual.result c.from_residual.ensures.1 in rw (p.1, p.2) (record { does = let a = c.args in emit_stop a.source.offset (mod_of a.source.image.words.now a.source.image.n) (needsE a.source.offset a.source.image.words.now a.source.image.tags.now a.source.image.n a.expressions.places.now a.expressions.count) (glances a.source.offset a.source.image.words.now a.source.image.tags.now a.source.image.n a.expressions.places.now a.expressions.count) a.a a.b c.requires.valid_arrays c.in_err-got.ensures.does refl (needs_grow a.source.offset a.source.image.words.now a.source.image.tags.now a.source.image.n a.expressions.places.now a.expressions.count); same = c.in_err-got.ensures.same })
+returns-in_err-got c = let p = err_from_is_err_and c.from_residual.result c.from_residual.ensures.1 in rw (p.1, p.2) (record { does = let a = c.args in emit_stop a.function.source.offset (mod_of a.function.source.image.words.now a.function.source.image.n) (needsE a.function.source.offset a.function.source.image.words.now a.function.source.image.tags.now a.function.source.image.n a.function.places.now a.function.count) (glances a.function.source.offset a.function.source.image.words.now a.function.source.image.tags.now a.function.source.image.n a.function.places.now a.function.count) a.a a.b c.requires.valid_arrays c.in_err-got.ensures.does refl (needs_grow a.function.source.offset a.function.source.image.words.now a.function.source.image.tags.now a.function.source.image.n a.function.places.now a.function.count); same = c.in_err-got.ensures.same })
 
 pub overflow_cast-from : goal.overflow_cast-from
 overflow_cast-from c = let z = made_small (c.in_ok-got.ensures.does.under refl) in omega arith
@@ -19,10 +19,10 @@ pub push-requires : goal.push-requires
 push-requires c = (c.in_ok-got.ensures.does.under refl).stacks_are
 
 pub returns-in_err-put : goal.returns-in_err-put
-returns-in_err-put c = let p = err_from_is_err_and c.from_residual-in_err-put.result c.from_residual-in_err-put.ensures.1 in rw (p.1, p.2) (record { does = let a = c.args in emit_over a.source.offset (mod_of a.source.image.words.now a.source.image.n) (needsE a.source.offset a.source.image.words.now a.source.image.tags.now a.source.image.n a.expressions.places.now a.expressions.count) (glances a.source.offset a.source.image.words.now a.source.image.tags.now a.source.image.n a.expressions.places.now a.expressions.count) a.a a.b c.requires.valid_arrays c.in_ok-got.ensures.does refl c.in_err-put.ensures refl (needs_grow a.source.offset a.source.image.words.now a.source.image.tags.now a.source.image.n a.expressions.places.now a.expressions.count); same = c.in_ok-got.ensures.same })
+returns-in_err-put c = let p = err_from_is_err_and c.from_residual-in_err-put.result c.from_residual-in_err-put.ensures.1 in rw (p.1, p.2) (record { does = let a = c.args in emit_over a.function.source.offset (mod_of a.function.source.image.words.now a.function.source.image.n) (needsE a.function.source.offset a.function.source.image.words.now a.function.source.image.tags.now a.function.source.image.n a.function.places.now a.function.count) (glances a.function.source.offset a.function.source.image.words.now a.function.source.image.tags.now a.function.source.image.n a.function.places.now a.function.count) a.a a.b c.requires.valid_arrays c.in_ok-got.ensures.does refl c.in_err-put.ensures refl (needs_grow a.function.source.offset a.function.source.image.words.now a.function.source.image.tags.now a.function.source.image.n a.function.places.now a.function.count); same = c.in_ok-got.ensures.same })
 
 pub second_pass-requires : goal.second_pass-requires
-second_pass-requires c = let v = c.view.ensures in let a = c.args in let z = refl in let R = emit_put a.source.offset (mod_of a.source.image.words.now a.source.image.n) (needsE a.source.offset a.source.image.words.now a.source.image.tags.now a.source.image.n a.expressions.places.now a.expressions.count) (glances a.source.offset a.source.image.words.now a.source.image.tags.now a.source.image.n a.expressions.places.now a.expressions.count) a.a a.b c.requires.valid_arrays c.in_ok-got.ensures.does refl c.in_ok-put.ensures in let D = drawn_first c.requires.expressions a.source.image.n a.source.offset c.requires.valid_arrays c.requires.under refl c.requires.b_le_k c.in_ok-got.ensures.does in record { ground = c.requires.ground; expressions = c.requires.expressions; b_le_k = c.requires.b_le_k; by_index = (c.first_pass.new.derived.buckets.now, rw (v.0, v.1, v.2, v.3, v.5) (R.kept z)); under = rw v.5 (R.under z); drawn = rw v.3 D }
+second_pass-requires c = let v = c.view.ensures in let a = c.args in let z = refl in let R = emit_put a.function.source.offset (mod_of a.function.source.image.words.now a.function.source.image.n) (needsE a.function.source.offset a.function.source.image.words.now a.function.source.image.tags.now a.function.source.image.n a.function.places.now a.function.count) (glances a.function.source.offset a.function.source.image.words.now a.function.source.image.tags.now a.function.source.image.n a.function.places.now a.function.count) a.a a.b c.requires.valid_arrays c.in_ok-got.ensures.does refl c.in_ok-put.ensures in let D = drawn_first c.requires.expressions a.function.source.image.n a.function.source.offset c.requires.valid_arrays c.requires.under refl c.requires.b_le_k c.in_ok-got.ensures.does in record { ground = c.requires.ground; expressions = c.requires.expressions; b_le_k = c.requires.b_le_k; by_index = (c.first_pass.new.derived.buckets.now, rw (v.0, v.1, v.2, v.3, v.5) (R.kept z)); under = rw v.5 (R.under z); drawn = rw v.3 D }
 
 pub returns : goal.returns
-returns c = let v = c.view.ensures in record { does = let a = c.args in let z = refl in let R = emit_put a.source.offset (mod_of a.source.image.words.now a.source.image.n) (needsE a.source.offset a.source.image.words.now a.source.image.tags.now a.source.image.n a.expressions.places.now a.expressions.count) (glances a.source.offset a.source.image.words.now a.source.image.tags.now a.source.image.n a.expressions.places.now a.expressions.count) a.a a.b c.requires.valid_arrays c.in_ok-got.ensures.does refl c.in_ok-put.ensures in emit_done a.source.offset (mod_of a.source.image.words.now a.source.image.n) (needsE a.source.offset a.source.image.words.now a.source.image.tags.now a.source.image.n a.expressions.places.now a.expressions.count) (glances a.source.offset a.source.image.words.now a.source.image.tags.now a.source.image.n a.expressions.places.now a.expressions.count) a.a a.b c.requires.valid_arrays c.in_ok-got.ensures.does refl c.in_ok-put.ensures z ((rw (v.0, v.1, v.2, v.3, v.5) at c.second_pass.ensures).lays _ (R.kept z)); same = c.in_ok-got.ensures.same }
+returns c = let v = c.view.ensures in record { does = let a = c.args in let z = refl in let R = emit_put a.function.source.offset (mod_of a.function.source.image.words.now a.function.source.image.n) (needsE a.function.source.offset a.function.source.image.words.now a.function.source.image.tags.now a.function.source.image.n a.function.places.now a.function.count) (glances a.function.source.offset a.function.source.image.words.now a.function.source.image.tags.now a.function.source.image.n a.function.places.now a.function.count) a.a a.b c.requires.valid_arrays c.in_ok-got.ensures.does refl c.in_ok-put.ensures in emit_done a.function.source.offset (mod_of a.function.source.image.words.now a.function.source.image.n) (needsE a.function.source.offset a.function.source.image.words.now a.function.source.image.tags.now a.function.source.image.n a.function.places.now a.function.count) (glances a.function.source.offset a.function.source.image.words.now a.function.source.image.tags.now a.function.source.image.n a.function.places.now a.function.count) a.a a.b c.requires.valid_arrays c.in_ok-got.ensures.does refl c.in_ok-put.ensures z ((rw (v.0, v.1, v.2, v.3, v.5) at c.second_pass.ensures).lays _ (R.kept z)); same = c.in_ok-got.ensures.same }

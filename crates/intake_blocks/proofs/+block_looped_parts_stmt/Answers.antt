@@ -61,31 +61,31 @@ pub parts-loop-i-init : goal.parts-loop-i-init
 parts-loop-i-init t c = parts-begin _ _ _ _ _ _ _ _ _ _ c.requires.stmt_here c.requires.nonzero.0 c.requires.nonzero.1 c.requires.breaks_value
 
 pub parts-skip-fin-requires : goal.parts-skip-fin-requires
-parts-skip-fin-requires t c = let zz = parts_skip _ _ _ _ _ _ _ _ _ _ c.requires.stmt_here _ _ _ c.loop-i.invariant c.loop-i-test.true c.if-image-i-eq-BLOCK.true in record { at_bound = zz.0; steps = zz.1 }
+parts-skip-fin-requires t c = let zz = parts_skip _ _ _ _ _ _ _ _ _ _ c.requires.stmt_here _ _ _ c.loop-i.invariant c.loop-i-test.true c.if-expressions-i-eq-BLOCK.true in record { at_bound = zz.0; steps = zz.1 }
 
 pub parts-block-requires : goal.parts-block-requires
-parts-block-requires t c = let f = parts_far _ _ _ _ _ _ _ _ _ _ c.requires.stmt_here _ _ _ c.loop-i.invariant c.loop-i-test.true c.if-image-i-eq-BLOCK.true _ c.skip-fin.ensures in let o = parts-on _ _ _ _ _ _ _ _ _ _ c.requires.stmt_here _ _ _ c.loop-i.invariant c.loop-i-test.true c.if-image-i-eq-BLOCK.true _ c.skip-fin.ensures in let p = c.loop-i.invariant.past in (search rules, parts_block _ _ _ _ _ _ _ _ _ _ c.requires.stmt_here _ _ _ c.loop-i.invariant c.loop-i-test.true c.if-image-i-eq-BLOCK.true _ c.skip-fin.ensures)
+parts-block-requires t c = let f = parts_far _ _ _ _ _ _ _ _ _ _ c.requires.stmt_here _ _ _ c.loop-i.invariant c.loop-i-test.true c.if-expressions-i-eq-BLOCK.true _ c.skip-fin.ensures in let o = parts-on _ _ _ _ _ _ _ _ _ _ c.requires.stmt_here _ _ _ c.loop-i.invariant c.loop-i-test.true c.if-expressions-i-eq-BLOCK.true _ c.skip-fin.ensures in let p = c.loop-i.invariant.past in (search rules, parts_block _ _ _ _ _ _ _ _ _ _ c.requires.stmt_here _ _ _ c.loop-i.invariant c.loop-i-test.true c.if-expressions-i-eq-BLOCK.true _ c.skip-fin.ensures)
 
 pub parts-returns-in_err-block : goal.parts-returns-in_err-block
-parts-returns-in_err-block t c = rw c.from_residual.ensures (parts_wrong _ _ _ _ _ _ _ _ _ _ c.requires.stmt_here _ _ _ c.loop-i.invariant c.loop-i-test.true c.if-image-i-eq-BLOCK.true _ c.skip-fin.ensures _ _ c.block.ensures c.in_err-block.was)
+parts-returns-in_err-block t c = rw c.from_residual.ensures (parts_wrong _ _ _ _ _ _ _ _ _ _ c.requires.stmt_here _ _ _ c.loop-i.invariant c.loop-i-test.true c.if-expressions-i-eq-BLOCK.true _ c.skip-fin.ensures _ _ c.block.ensures c.in_err-block.was)
 
-pub parts-loop-i-smaller-then-image-i-eq-BLOCK : goal.parts-loop-i-smaller-then-image-i-eq-BLOCK
-parts-loop-i-smaller-then-image-i-eq-BLOCK t c = let f = parts_far _ _ _ _ _ _ _ _ _ _ c.requires.stmt_here _ _ _ c.loop-i.invariant c.loop-i-test.true c.if-image-i-eq-BLOCK.true _ c.skip-fin.ensures in let o = parts-on _ _ _ _ _ _ _ _ _ _ c.requires.stmt_here _ _ _ c.loop-i.invariant c.loop-i-test.true c.if-image-i-eq-BLOCK.true _ c.skip-fin.ensures in let l = c.loop-i-test.true in search rules
+pub parts-loop-i-smaller-then-expressions-i-eq-BLOCK : goal.parts-loop-i-smaller-then-expressions-i-eq-BLOCK
+parts-loop-i-smaller-then-expressions-i-eq-BLOCK t c = let f = parts_far _ _ _ _ _ _ _ _ _ _ c.requires.stmt_here _ _ _ c.loop-i.invariant c.loop-i-test.true c.if-expressions-i-eq-BLOCK.true _ c.skip-fin.ensures in let o = parts-on _ _ _ _ _ _ _ _ _ _ c.requires.stmt_here _ _ _ c.loop-i.invariant c.loop-i-test.true c.if-expressions-i-eq-BLOCK.true _ c.skip-fin.ensures in let l = c.loop-i-test.true in search rules
 
-pub parts-loop-i-preserved-then-image-i-eq-BLOCK : goal.parts-loop-i-preserved-then-image-i-eq-BLOCK
-parts-loop-i-preserved-then-image-i-eq-BLOCK t c = parts_next _ _ _ _ _ _ _ _ _ _ c.requires.stmt_here _ _ _ c.loop-i.invariant c.loop-i-test.true c.if-image-i-eq-BLOCK.true _ c.skip-fin.ensures _ _ c.block.ensures _ c.in_ok-block.was _ c.then-flow.ensures
+pub parts-loop-i-preserved-then-expressions-i-eq-BLOCK : goal.parts-loop-i-preserved-then-expressions-i-eq-BLOCK
+parts-loop-i-preserved-then-expressions-i-eq-BLOCK t c = parts_next _ _ _ _ _ _ _ _ _ _ c.requires.stmt_here _ _ _ c.loop-i.invariant c.loop-i-test.true c.if-expressions-i-eq-BLOCK.true _ c.skip-fin.ensures _ _ c.block.ensures _ c.in_ok-block.was _ c.then-flow.ensures
 
 pub parts-returns-else-read : goal.parts-returns-else-read
-parts-returns-else-read t c = word_wrong _ _ _ _ _ _ _ _ _ _ c.requires.stmt_here _ _ _ c.loop-i.invariant c.loop-i-test.true c.if-image-i-eq-BLOCK.false _ c.read.ensures c.if-read.false
+parts-returns-else-read t c = word_wrong _ _ _ _ _ _ _ _ _ _ c.requires.stmt_here _ _ _ c.loop-i.invariant c.loop-i-test.true c.if-expressions-i-eq-BLOCK.false _ c.read.ensures c.if-read.false
 
 pub parts-loop-i-preserved : goal.parts-loop-i-preserved
-parts-loop-i-preserved t c = word_next _ _ _ _ _ _ _ _ _ _ c.requires.stmt_here _ _ _ c.loop-i.invariant c.loop-i-test.true c.if-image-i-eq-BLOCK.false _ c.read.ensures c.if-read.true
+parts-loop-i-preserved t c = word_next _ _ _ _ _ _ _ _ _ _ c.requires.stmt_here _ _ _ c.loop-i.invariant c.loop-i-test.true c.if-expressions-i-eq-BLOCK.false _ c.read.ensures c.if-read.true
 
 pub parts-returns : goal.parts-returns
 parts-returns t c = parts_done _ _ _ _ _ _ _ _ _ _ c.requires.stmt_here _ _ _ c.loop-i.invariant c.loop-i-test.false
 
-pub stmt-bounds-image-at : goal.stmt-bounds-image-at
-stmt-bounds-image-at t c = let h = stmt_low _ _ _ [] [] _ _ _ _ c.requires in let w = c.requires.holds.within in search rules
+pub stmt-bounds-expressions-at : goal.stmt-bounds-expressions-at
+stmt-bounds-expressions-at t c = let h = stmt_low _ _ _ [] [] _ _ _ _ c.requires in let w = c.requires.holds.within in search rules
 
 pub stmt-emit-requires : goal.stmt-emit-requires
 stmt-emit-requires t c = let zz = emit_asks _ _ _ [] [] _ _ _ _ c.requires c.in-0.is in record { exprs = c.requires.exprs; at_lt_keep = zz.0; at_bound = zz.1.0; at_bound_2 = zz.1.1 }
@@ -111,5 +111,5 @@ stmt-returns-in-7 t c = stmt_no_return _ _ _ _ _ _ _ _ _ c.requires (omega (arit
 pub stmt-returns-in_default : goal.stmt-returns-in_default
 stmt-returns-in_default t c = elim c.in_default.branch [
   | stmt-in_default-via-in-7+else-not-place w ↦ stmt_simple _ _ _ _ _ _ _ _ _ c.requires (omega (arith, w.in-7.is)) _ _ _ _ _ c.simple.ensures _ (c.then_some-in_default.ensures ∙ found_is _) (λ e. not-false _ w.if-not-place.false)
-  | stmt-in_default-via-in_default+else-this-lt3 w ↦ let k : 7 < get_or c.args.image.words.now (c.args.at + 1) 0 = omega arith in stmt_simple _ _ _ _ _ _ _ _ _ c.requires (omega (arith, k)) _ _ _ _ _ c.simple.ensures _ (c.then_some-in_default.ensures ∙ found_is _) (λ e. absurd (omega (arith, k, e)))
+  | stmt-in_default-via-in_default+else-this-lt3 w ↦ let k : 7 < get_or c.args.expressions.image.words.now (c.args.at + 1) 0 = omega arith in stmt_simple _ _ _ _ _ _ _ _ _ c.requires (omega (arith, k)) _ _ _ _ _ c.simple.ensures _ (c.then_some-in_default.ensures ∙ found_is _) (λ e. absurd (omega (arith, k, e)))
 ]

@@ -12,6 +12,6 @@ use Rattle.intake_statements.proofs.reads.Goals as goal
 
 pub returns : goal.returns
 returns c =
-    let seen = visible_at c.args.image.words.now c.args.starts.now c.args.until.now c.args.count c.args.at in
-    all_from_yields_List (λ j. all_seen (operand (get_or c.args.image.tags.now j 0) (get_or c.args.image.words.now j 0) []) seen) _ _ c.all.result c.all.ensures.ran (YieldsList-from_range c.args.from c.args.to (c.args.to - c.args.from) refl refl) (λ x v q k. search rules)
-    ∙ reads_are c.args.image.words.now c.args.image.tags.now seen c.args.from c.args.to
+    let seen = visible_at c.args.expressions.image.words.now c.args.expressions.starts.now c.args.until.now c.args.expressions.count c.args.at in
+    all_from_yields_List (λ j. all_seen (operand (get_or c.args.expressions.image.tags.now j 0) (get_or c.args.expressions.image.words.now j 0) []) seen) _ _ c.all.result c.all.ensures.ran (YieldsList-from_range c.args.from c.args.to (c.args.to - c.args.from) refl refl) (λ x v q k. search rules)
+    ∙ reads_are c.args.expressions.image.words.now c.args.expressions.image.tags.now seen c.args.from c.args.to

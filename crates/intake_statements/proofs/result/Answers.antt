@@ -5,7 +5,7 @@ use borrow.Author.Tests.{eqb-true, eqb-false, ltb-true}
 use Rattle.intake_statements.proofs.Results.{result_in_lem, result_none, result_out, result_unfit, result_twice, result_fine}
 use borrow.Author.Rules.{rules}
 use Rattle.intake_statements.proofs.result.Goals as goal
-use Rattle.intake_statements.proofs.result.Goals.{then-e-count, else-e-count, then-result_fits, else-result_fits}
+use Rattle.intake_statements.proofs.result.Goals.{then-e-expressions, else-e-expressions, then-result_fits, else-result_fits}
 
 pub returns-in_default : goal.returns-in_default
 returns-in_default c = search (result_none, rules)
@@ -18,9 +18,9 @@ returns-then-fine c =
     let is = sym c.in-Some.is ∙ c.result_of.ensures in
     rw c.if-fine.true
     (elim c.if-result_fits.branch [
-      | then-result_fits w ↦ elim c.if-e-count.branch [
-        | then-e-count v ↦ result_fine _ _ _ _ _ _ _ _ c.requires.exprs c.requires.stop_le_keep c.requires.at_bound _ is v.if-e-count.true _ v.result_fits.ensures (sym v.value-is ∙ w.if-result_fits.true) (eqb-true _ 0 (sym w.fine-is ∙ c.if-fine.true))
-        | else-e-count v ↦ absurd (omega (arith, ltb-true _ _ (sym v.value-is ∙ w.if-result_fits.true), v.if-e-count.false))
+      | then-result_fits w ↦ elim c.if-e-expressions.branch [
+        | then-e-expressions v ↦ result_fine _ _ _ _ _ _ _ _ c.requires.exprs c.requires.stop_le_keep c.requires.at_bound _ is v.if-e-expressions.true _ v.result_fits.ensures (sym v.value-is ∙ w.if-result_fits.true) (eqb-true _ 0 (sym w.fine-is ∙ c.if-fine.true))
+        | else-e-expressions v ↦ absurd (omega (arith, ltb-true _ _ (sym v.value-is ∙ w.if-result_fits.true), v.if-e-expressions.false))
       ]
       | else-result_fits w ↦ absurd (false≢true (sym (w.fine-is ∙ w.if-result_fits.false) ∙ c.if-fine.true))
     ])
@@ -29,10 +29,10 @@ pub returns-else-fine : goal.returns-else-fine
 returns-else-fine c =
     let is = sym c.in-Some.is ∙ c.result_of.ensures in
     rw c.if-fine.false
-    (elim c.if-e-count.branch [
-      | then-e-count v ↦ elim c.if-result_fits.branch [
-        | then-result_fits w ↦ result_twice _ _ _ _ _ _ _ _ c.requires.exprs c.requires.stop_le_keep c.requires.at_bound _ is v.if-e-count.true _ v.result_fits.ensures (sym v.value-is ∙ w.if-result_fits.true) (eqb-false _ 0 (sym w.fine-is ∙ c.if-fine.false))
-        | else-result_fits w ↦ result_unfit _ _ _ _ _ _ _ _ c.requires.exprs c.requires.stop_le_keep c.requires.at_bound _ is v.if-e-count.true _ v.result_fits.ensures (sym v.value-is ∙ w.if-result_fits.false)
+    (elim c.if-e-expressions.branch [
+      | then-e-expressions v ↦ elim c.if-result_fits.branch [
+        | then-result_fits w ↦ result_twice _ _ _ _ _ _ _ _ c.requires.exprs c.requires.stop_le_keep c.requires.at_bound _ is v.if-e-expressions.true _ v.result_fits.ensures (sym v.value-is ∙ w.if-result_fits.true) (eqb-false _ 0 (sym w.fine-is ∙ c.if-fine.false))
+        | else-result_fits w ↦ result_unfit _ _ _ _ _ _ _ _ c.requires.exprs c.requires.stop_le_keep c.requires.at_bound _ is v.if-e-expressions.true _ v.result_fits.ensures (sym v.value-is ∙ w.if-result_fits.false)
       ]
-      | else-e-count v ↦ result_out _ _ _ _ _ _ _ _ c.requires.exprs c.requires.stop_le_keep c.requires.at_bound _ is v.if-e-count.false
+      | else-e-expressions v ↦ result_out _ _ _ _ _ _ _ _ c.requires.exprs c.requires.stop_le_keep c.requires.at_bound _ is v.if-e-expressions.false
     ])

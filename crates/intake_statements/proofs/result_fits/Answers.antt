@@ -2,8 +2,8 @@ use Rattle.intake_statements.proofs.Results.{function_in_lem, fits_call, fits_no
 use borrow.Author.Rules.{rules}
 use Rattle.intake_statements.proofs.result_fits.Goals as goal
 
-pub bounds-image-starts : goal.bounds-image-starts
-bounds-image-starts c = function_in_lem _ _ _ _ _ c.requires.exprs c.requires.e_lt_count _ c.kind-k.ensures c.if-k-eq-CALL_RESULT.true
+pub bounds-words-expressions : goal.bounds-words-expressions
+bounds-words-expressions c = function_in_lem _ _ _ _ _ c.requires.exprs c.requires.e_lt_count _ c.kind-k.ensures c.if-k-eq-CALL_RESULT.true
 
 pub returns-then-k-eq-CALL_RESULT : goal.returns-then-k-eq-CALL_RESULT
 returns-then-k-eq-CALL_RESULT c = fits_call _ _ _ _ _ c.requires.exprs c.requires.e_lt_count _ c.kind-k.ensures _ _ c.in-15.is c.if-k-eq-CALL_RESULT.true

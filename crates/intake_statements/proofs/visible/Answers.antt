@@ -2,8 +2,8 @@ use Rattle.intake_statements.proofs.Leaves.{visible_out, visible_in, visible_kin
 use borrow.Author.Rules.{rules}
 use Rattle.intake_statements.proofs.visible.Goals as goal
 
-pub returns-then-count-e : goal.returns-then-count-e
-returns-then-count-e c = search (visible_out, rules)
+pub returns-then-expressions-e : goal.returns-then-expressions-e
+returns-then-expressions-e c = search (visible_out, rules)
 
 pub returns-then-live : goal.returns-then-live
 returns-then-live c = search (visible_in, rules)
