@@ -69,10 +69,10 @@ fn index_parts(image: Image, s: usize, end: usize, places: &mut Places) -> Parts
     let named = places[count] as usize;
     let body = named + 1 + 2 * image.words[named] as usize;
     Parts {
-        exprs: exprs,
-        count: count,
-        named: named,
-        body: body,
+        exprs,
+        count,
+        named,
+        body,
     }
 }
 

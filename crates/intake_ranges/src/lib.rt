@@ -24,7 +24,8 @@ pub fn code_bounds() -> [u64; 256]
     t
 }
 
-// The bounds outside functions, from the header: an optional number may be its count, which is one more than the last number.
+// The bounds outside functions, from the header: an optional number may be its count, which is one more than the last number. The last nine are set here and not
+// by function_bounds, whose contract says what becomes of a whole table of bounds, which this one is not before.
 pub fn module_bounds(t: &mut [u64; 256], words: &Words)
     requires { t.old ≡ codes }
     ensures { t.new ≡ table (headed words.now) }

@@ -41,12 +41,7 @@ fn visible(expressions: Expressions, until: &[usize; 1024], at: usize, e: usize)
     requires { Placed expressions.starts.now expressions.count }
     ensures { result ≡ visible_at expressions.entry.image.words.now expressions.entry.starts.now until.now expressions.entry.count at e }
 {
-    // a ladder: the second test has a name, so that an edit of it leaves the goals their names, and it reads what only the first allows
-    if expressions.count <= e {
-        return false;
-    }
-    let live = at < until[e];
-    live || stands(kind(expressions, e))
+    e < expressions.count && (at < until[e] || stands(kind(expressions, e)))
 }
 
 // Does the word j read only what is in scope at the word `at`?

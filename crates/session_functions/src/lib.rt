@@ -20,16 +20,14 @@ ghost use Rattle.session_functions.specs.Brought.{BringsTo};
 ghost use Rattle.derive_state.specs.Refers.{target_bytes};
 
 use base_refusals::Refusal;
-use base_views::{FUNCTIONS, Image, count};
+use base_views::{FUNCTIONS, count};
 use derive_lookup::known;
 use derive_rings::{entries_ring, follow_rings, import_rings};
 use derive_snapshot::{Snapshot, restore, save};
-use derive_state::{
-    DerivedMut, Full, ShaderSource, Sizes, Special, StackRows, clear_maps, empty, number_of,
-};
+use derive_state::{DerivedMut, Full, ShaderSource, Sizes, Special, StackRows, number_of};
 use function_entry::enter_all;
 use function_localize::{append, follow};
-use session_operations::Session;
+use session_operations::{Session, renew};
 
 // Empties the stacks of functions under construction.
 fn empty_stacks(stacks: &mut StackRows)
@@ -102,21 +100,12 @@ pub fn import_function(session: &mut Session, f: u32) -> Result<u32, Refusal>
     requires { Valid session.old }
     ensures { Operates {A = ℕ} (import_function f) session.old (refusal_of result) (value_in result) session.new }
 {
-    let Some(set) = session.source else {
-        return Err(Refusal::NoSource);
-    };
+    let set = session.source.ok_or(Refusal::NoSource)?;
     let room = count(session.words, FUNCTIONS);
     if room <= f as usize {
         return Err(Refusal::NumberGiven);
     }
-    let source = ShaderSource {
-        image: Image {
-            words: session.words,
-            tags: session.tags,
-            n: set.n,
-        },
-        offset: set.offset,
-    };
+    let source = set.over(session.words, session.tags);
     if import_rings(
         source.image,
         &session.derived.view(session.sizes),
@@ -144,21 +133,12 @@ pub fn map_function_handle(session: &mut Session, f: u32) -> Result<u32, Refusal
     requires { Valid session.old }
     ensures { Operates {A = ℕ} (map_function_handle f) session.old (refusal_of result) (value_in result) session.new }
 {
-    let Some(set) = session.source else {
-        return Err(Refusal::NoSource);
-    };
+    let set = session.source.ok_or(Refusal::NoSource)?;
     let room = count(session.words, FUNCTIONS);
     if room <= f as usize {
         return Err(Refusal::NumberGiven);
     }
-    let source = ShaderSource {
-        image: Image {
-            words: session.words,
-            tags: session.tags,
-            n: set.n,
-        },
-        offset: set.offset,
-    };
+    let source = set.over(session.words, session.tags);
     if follow_rings(
         source.image,
         &session.derived.view(session.sizes),
@@ -187,17 +167,8 @@ pub fn finish_with_entries(session: &mut Session, output: &mut [u8]) -> Result<u
     requires { Valid session.old }
     ensures { Finishes (finish_with_entry_points (length output.old)) session.old (refusal_of result) (bytes_in result) output.old output.new session.new }
 {
-    let Some(set) = session.source else {
-        return Err(Refusal::NoSource);
-    };
-    let source = ShaderSource {
-        image: Image {
-            words: session.words,
-            tags: session.tags,
-            n: set.n,
-        },
-        offset: set.offset,
-    };
+    let set = session.source.ok_or(Refusal::NoSource)?;
+    let source = set.over(session.words, session.tags);
     if entries_ring(source.image, &session.derived.view(session.sizes)) {
         return Err(Refusal::UnknownRing);
     }
@@ -225,11 +196,6 @@ pub fn finish_with_entries(session: &mut Session, output: &mut [u8]) -> Result<u
     *session.derived.starts = starts;
     *session.derived.maps = maps;
     let bytes = ended?;
-    clear_maps(session.derived.maps);
-    session.special[0] = 0;
-    session.special[1] = 0;
-    session.special[2] = 0;
-    session.source = None;
-    session.sizes = empty();
+    renew(session);
     Ok(bytes)
 }

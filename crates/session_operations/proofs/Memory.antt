@@ -7,6 +7,10 @@ use Rattle.derive_state.specs.Sizes.{Sizes}
 use Rattle.derive_state.proofs.State.{arrays_same}
 use Rattle.function_builder.specs.Stacks.{Stacks}
 use Rattle.session_operations.specs.declared.Session.{Session}
+use Rattle.std.specs.Prelude.{Option, None, Some, Result, Err}
+use Rattle.std.specs.Option.{ok_or}
+use Rattle.base_refusals.specs.declared.Refusal.{Refusal}
+use Rattle.session_operations.specs.declared.SetSource.{SetSource}
 use Rattle.session_operations.specs.Sessions.{SameMemory}
 
 pub memory_same : (s : Session) → SameMemory s s
@@ -14,3 +18,8 @@ memory_same s = record { words_same = refl; tags_same = refl; derived_same = arr
 
 pub stacks_low : {stacks : List (List ℕ)} {e e' : Sizes} → Stacks stacks e → (e'.exprtop ≡ 0) × (e'.bodytop ≡ 0) → Stacks stacks e'
 stacks_low h l = record { four = h.four; rows = h.rows; high = let p = l.0 in omega arith; high' = let p = l.1 in omega arith }
+
+-- no source is set where asking for it fails
+pub no_source : (f : Option SetSource) (e y : Refusal) (r : Result SetSource Refusal) → r ≡ ok_or f e → r ≡ Err y → (f ≡ None) × (y ≡ e)
+no_source None e y r is q = (refl, cc)
+no_source (Some a) e y r is q = absurd (cc)

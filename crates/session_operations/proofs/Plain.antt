@@ -1,7 +1,7 @@
 -- What an operation answers, as numbers, and the operations that leave the session as it is.
 use Rattle.std.proofs.Common.{◌≡◌, ℕ, zero, suc, ◌+◌, ◌%◌, ◌^◌, ◌<◌, Bool, true, false, not, ◌||◌, ltb, ◌⊎◌, List, get_or, sym, refl, ap, ◌∙◌, ap₂, ⊎_elim, arith, le-ltb, lt-ltb, eq-eqb, ne_eqb}
 use mathlib.Core.Bool.{false≢true}
-use borrow.Author.Tests.{not-true, not-false}
+use borrow.Author.Tests.{not-false}
 use Rattle.model.specs.Imports.{emptied}
 use Rattle.model.specs.References.{undefined, add, span_by}
 use Rattle.model.specs.Session.{Session, Answer, answered, refused, any_ray, has_required_special_types}
@@ -26,9 +26,6 @@ answers op s s' v e = record { is = e; stays = λ h. absurd (omega arith) }
 
 -- ---- map_span
 module _ (set : Bool) (o a b : ℕ) where
-  pub span_none : not set ≡ true → MapSpanEnsures set o a b 20 0 0
-  span_none h = record { none-set = λ q. (refl, refl, refl); is = λ q. absurd (false≢true (sym (not-true set h) ∙ q)) }
-
   module _ (h : not set ≡ false) where
     pub span_undefined : a ≡ 0 → b ≡ 0 → MapSpanEnsures set o a b 0 0 0
     unfolding span_by undefined add

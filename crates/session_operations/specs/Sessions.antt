@@ -1,5 +1,5 @@
 -- A session in arrays of the caller: the model's session that it means, when it is valid between two operations, and what an operation on it promises.
-use Rattle.std.specs.Prelude.{◌≡◌, ℕ, Bool, true, false, List, Option, None, Some}
+use Rattle.std.specs.Prelude.{◌≡◌, ℕ, Bool, true, false, List, Option, None, Some, replicate, slice_set}
 use Rattle.model.specs.Session.{Session as Session', Answer}
 use Rattle.derive_state.specs.Refers.{target_bytes}
 use Rattle.derive_state.specs.Sizes.{going}
@@ -50,3 +50,15 @@ pub record Finishes (op : Session' → Answer (List ℕ)) (s : Session) (refusal
   pub does : FinishEnsures (op (meant s)) (meant s) refusal bytes output₀ output (meant s')
   pub valid : Valid s'
   pub same : SameMemory s s'
+
+-- ---- what follows a session that is finished: no source, nothing mapped, no special types and no sizes, in the same arrays
+abbrev pub renewed : Session → Session
+renewed s = record {
+  source = None;
+  words = s.words;
+  tags = s.tags;
+  derived = record { log = s.derived.log; logtags = s.derived.logtags; starts = s.derived.starts; maps = record { ref_ptr = s.derived.maps.ref_ptr; ghost_name = s.derived.maps.ghost_name; now = replicate 6 (replicate 512 0) }; buckets = s.derived.buckets };
+  special = record { ref_ptr = s.special.ref_ptr; ghost_name = s.special.ghost_name; now = slice_set (slice_set (slice_set s.special.now 0 0) 1 0) 2 0 };
+  stacks = s.stacks;
+  sizes = record { loglen = 0; counts = replicate 8 0; pairs = 0; exprtop = 0; bodytop = 0; made = 0 };
+}

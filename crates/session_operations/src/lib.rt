@@ -11,7 +11,7 @@ ghost use Rattle.derive_state.specs.Sizes.{going};
 ghost use Rattle.derive_finish.specs.Told.{refusal_of, bytes_in};
 ghost use Rattle.session_operations.specs.Operations.{MapSpanEnsures, RequiredEnsures};
 ghost use Rattle.session_operations.specs.Answers.{value_in, start_of, end_of};
-ghost use Rattle.session_operations.specs.Sessions.{is_set, offset_in, Valid, Operates, Finishes};
+ghost use Rattle.session_operations.specs.Sessions.{is_set, offset_in, Valid, Operates, Finishes, renewed};
 
 use base_handles::TypeHandle;
 use base_refusals::Refusal;
@@ -28,6 +28,22 @@ use std::num::wrapping_add_u32;
 pub struct SetSource {
     pub n: usize,
     pub offset: u32,
+}
+
+impl SetSource {
+    // The source with these words and their classes.
+    pub fn over<'a>(self, words: &'a Words, tags: &'a Tags) -> ShaderSource<'a>
+        ensures { (result.image.words.now ≡ words.now) × (result.image.tags.now ≡ tags.now) × (result.image.n ≡ self.n) × (result.offset ≡ self.offset) }
+    {
+        ShaderSource {
+            image: Image {
+                words,
+                tags,
+                n: self.n,
+            },
+            offset: self.offset,
+        }
+    }
 }
 
 // A session: the source that is set, if one is, with the words of it and their classes; and the derived module with its special types, the stacks of functions
@@ -49,20 +65,11 @@ pub fn import(session: &mut Session, t: usize, h: u32) -> Result<u32, Refusal>
     requires valid { Valid session.old }
     ensures { Operates {A = ℕ} (importing (tab_of t) h) session.old (refusal_of result) (value_in result) session.new }
 {
-    let Some(set) = session.source else {
-        return Err(Refusal::NoSource);
-    };
+    let set = session.source.ok_or(Refusal::NoSource)?;
     if count(session.words, t) <= h as usize {
         return Err(Refusal::NumberGiven);
     }
-    let source = ShaderSource {
-        image: Image {
-            words: session.words,
-            tags: session.tags,
-            n: set.n,
-        },
-        offset: set.offset,
-    };
+    let source = set.over(session.words, session.tags);
     let Ok(sizes) = derive_rollback::import(source, &mut session.derived, session.sizes, t, h)
     else {
         return Err(Refusal::Full);
@@ -76,23 +83,14 @@ pub fn rename_type(session: &mut Session, h: u32, name: u32) -> Result<u32, Refu
     requires { Valid session.old }
     ensures { Operates {A = ℕ} (rename_type h name) session.old (refusal_of result) (value_in result) session.new }
 {
-    let Some(set) = session.source else {
-        return Err(Refusal::NoSource);
-    };
+    let set = session.source.ok_or(Refusal::NoSource)?;
     if count(session.words, TYPES) <= h as usize {
         return Err(Refusal::NumberGiven);
     }
     if count(session.words, NAMES) <= name as usize {
         return Err(Refusal::NumberGiven);
     }
-    let source = ShaderSource {
-        image: Image {
-            words: session.words,
-            tags: session.tags,
-            n: set.n,
-        },
-        offset: set.offset,
-    };
+    let source = set.over(session.words, session.tags);
     let Ok(sizes) = derive_rollback::rename_type(
         source,
         &mut session.derived,
@@ -117,9 +115,7 @@ pub struct Span {
 pub fn map_span(source: Option<SetSource>, a: u32, b: u32) -> Result<Span, Refusal>
     ensures { MapSpanEnsures (is_set source) (offset_in source) a b (refusal_of result) (start_of result) (end_of result) }
 {
-    let Some(set) = source else {
-        return Err(Refusal::NoSource);
-    };
+    let set = source.ok_or(Refusal::NoSource)?;
     if a == 0 && b == 0 {
         return Ok(Span { start: 0, end: 0 });
     }
@@ -164,18 +160,12 @@ fn set_first_source(session: &mut Session, image: &[u8], offset: u32) -> Result<
             return Err(refusal);
         }
     };
-    let source = ShaderSource {
-        image: Image {
-            words: session.words,
-            tags: session.tags,
-            n,
-        },
-        offset,
-    };
+    let set = SetSource { n, offset };
+    let source = set.over(session.words, session.tags);
     let Ok(sizes) = set_source(source, &mut session.derived, session.special, session.sizes) else {
         return Err(Refusal::Full);
     };
-    session.source = Some(SetSource { n, offset });
+    session.source = Some(set);
     session.sizes = sizes;
     Ok(())
 }
@@ -191,22 +181,28 @@ pub fn set_shader_source(session: &mut Session, image: &[u8], offset: u32) -> Re
     let mut words = [0; 16384];
     let mut tags = [0; 16384];
     let n = intake::take_in(image, &mut words, &mut tags)?;
-    let source = ShaderSource {
-        image: Image {
-            words: &words,
-            tags: &tags,
-            n,
-        },
-        offset,
-    };
+    let set = SetSource { n, offset };
+    let source = set.over(&words, &tags);
     let Ok(sizes) = set_source(source, &mut session.derived, session.special, session.sizes) else {
         return Err(Refusal::Full);
     };
     *session.words = words;
     *session.tags = tags;
-    session.source = Some(SetSource { n, offset });
+    session.source = Some(set);
     session.sizes = sizes;
     Ok(())
+}
+
+// The session that follows one that is finished: a new one, in its arrays.
+pub fn renew(session: &mut Session)
+    ensures { session.new ≡ renewed session.old }
+{
+    clear_maps(session.derived.maps);
+    session.special[0] = 0;
+    session.special[1] = 0;
+    session.special[2] = 0;
+    session.source = None;
+    session.sizes = empty();
 }
 
 // finish, without entry points: how many bytes were written. The session is then a new one; refused, it is as it was.
@@ -221,11 +217,6 @@ pub fn finish_plain(session: &mut Session, output: &mut [u8]) -> Result<usize, R
         &mut out,
         output,
     )?;
-    clear_maps(session.derived.maps);
-    session.special[0] = 0;
-    session.special[1] = 0;
-    session.special[2] = 0;
-    session.source = None;
-    session.sizes = empty();
+    renew(session);
     Ok(bytes)
 }

@@ -87,34 +87,34 @@ entries_so room s = go s.source
     go none = omega arith
     go (some x) = by_ring x (meets_ring (callees_of x.image.entries) x.image s.state)
 
--- ---- the part of l of b bytes from a on is the k from f on
-module _ (a b : ℕ) (l : List ℕ) (f d k : ℕ) (hf : f ≡ min a (length l)) (hd : d ≡ min b (length l - f)) (hk : k ≡ d) where
-  pub part-mid : part a b l ≡ mid_of f k l
+-- ---- the part of l of b bytes from a on is that from f to t
+module _ (a b : ℕ) (l : List ℕ) (f t : ℕ) (cut : (f ≡ min a (length l)) × (t ≡ f + min b (length l - f))) where
+  pub part-mid : part a b l ≡ mid_of f (t - f) l
   unfolding part
   part-mid =
-      ap (λ (r : List ℕ). take b r) (drop-cut a l ∙ ap (λ (n : ℕ). drop n l) (sym hf))
+      ap (λ (r : List ℕ). take b r) (drop-cut a l ∙ ap (λ (n : ℕ). drop n l) (sym cut.0))
       ∙ take-cut b (drop f l)
-      ∙ ap (λ (n : ℕ). take n (drop f l)) (ap (min b) (length-drop f l) ∙ sym hd ∙ sym hk)
+      ∙ ap (λ (n : ℕ). take n (drop f l)) (ap (min b) (length-drop f l) ∙ omega (arith, cut))
 
-  mid_size : (length (mid_of f k l) ≤ b) × (length (mid_of f k l) ≤ length l - f)
+  mid_size : (length (mid_of f (t - f) l) ≤ b) × (length (mid_of f (t - f) l) ≤ length l - f)
   mid_size =
-      let p = length-take k (drop f l) in
-      let q = min-le_left k (length (drop f l)) in
-      let u = min-le_right k (length (drop f l)) in
+      let p = length-take (t - f) (drop f l) in
+      let q = min-le_left (t - f) (length (drop f l)) in
+      let u = min-le_right (t - f) (length (drop f l)) in
       let w = length-drop f l in
       let x = min-le_left b (length l - f) in
-      (omega (arith, hd, hk), omega arith)
+      (omega (arith, cut), omega arith)
 
   moved : (vs : List ℕ) → length vs ≤ length l - f → sets l f vs ≡ sets l a vs
   moved [] h = refl
   moved (v ∷ vs) h =
       let p = min-le_left a (length l) in
-      let not : f < a → ⊥ = λ q. let u = le-min {k = suc f} {a = a} {b = length l} q (omega arith) in omega (arith, hf) in
-      let same : f ≡ a = omega (arith, hf, not) in
+      let not : f < a → ⊥ = λ q. let u = le-min {k = suc f} {a = a} {b = length l} q (omega arith) in omega (arith, cut) in
+      let same : f ≡ a = omega (arith, cut, not) in
       ap (λ (n : ℕ). sets l n (v ∷ vs)) same
 
   module _ (s s' : Session) (r n : ℕ) (left : List ℕ) where
-    wrote : (answer : Answer (List ℕ)) → EndsSo (length (mid_of f k l)) answer → FinishEnsures answer s r n (mid_of f k l) left s' → PerformEnsures (writes s a answer) r n 0 l (put_mid f k l left) s'
+    wrote : (answer : Answer (List ℕ)) → EndsSo (length (mid_of f (t - f) l)) answer → FinishEnsures answer s r n (mid_of f (t - f) l) left s' → PerformEnsures (writes s a answer) r n 0 l (put_mid f (t - f) l left) s'
     unfolding EndsSo told writes bytes_of
     wrote (answered ws s'') e h =
         let z = length_bytes_of ws in
@@ -124,7 +124,7 @@ module _ (a b : ℕ) (l : List ℕ) (f d k : ℕ) (hf : f ≡ min a (length l)) 
           refusal_is = ap (λ (p : ℕ × ℕ × List ℕ). p.0) h.is;
           first_is = ap (λ (p : ℕ × ℕ × List ℕ). p.1) h.is;
           second_is = refl;
-          output_is = ap (λ (p : ℕ × ℕ × List ℕ). put_mid f k l p.2) h.is ∙ put-sets (bytes_of ws) l f k (omega arith) ∙ moved (bytes_of ws) (omega arith);
+          output_is = ap (λ (p : ℕ × ℕ × List ℕ). put_mid f (t - f) l p.2) h.is ∙ put-sets (bytes_of ws) l f (t - f) (omega arith) ∙ moved (bytes_of ws) (omega arith);
           session_is = h.done (ap (λ (p : ℕ × ℕ × List ℕ). p.0) h.is) ∙ sym e.1;
         }
     wrote (refused j) e h =
@@ -133,25 +133,25 @@ module _ (a b : ℕ) (l : List ℕ) (f d k : ℕ) (hf : f ≡ min a (length l)) 
           refusal_is = z;
           first_is = ap (λ (p : ℕ × ℕ × List ℕ). p.1) h.is;
           second_is = refl;
-          output_is = ap (λ (p : ℕ × ℕ × List ℕ). put_mid f k l p.2) h.is ∙ put_same f k l;
+          output_is = ap (λ (p : ℕ × ℕ × List ℕ). put_mid f (t - f) l p.2) h.is ∙ put_same f (t - f) l;
           session_is = h.stays (omega (arith, z, e));
         }
 
-    small : (answer : Answer (List ℕ)) → EndsSo (length (mid_of f k l)) answer → FinishEnsures answer s r n (mid_of f k l) left s' → n ≤ b
+    small : (answer : Answer (List ℕ)) → EndsSo (length (mid_of f (t - f) l)) answer → FinishEnsures answer s r n (mid_of f (t - f) l) left s' → n ≤ b
     unfolding EndsSo told
     small (answered ws s'') e h = let z = ap (λ (p : ℕ × ℕ × List ℕ). p.1) h.is in let m = mid_size.0 in let g = e.0 in omega arith
     small (refused j) e h = let z = ap (λ (p : ℕ × ℕ × List ℕ). p.1) h.is in omega arith
 
-    pub plain-wrote : (c : ℕ) → FinishEnsures (finish (length (mid_of f k l)) s) s r n (mid_of f k l) left s' → Wrote 13 a b c s r n 0 l (put_mid f k l left) s'
+    pub plain-wrote : (c : ℕ) → FinishEnsures (finish (length (mid_of f (t - f) l)) s) s r n (mid_of f (t - f) l) left s' → Wrote 13 a b c s (record { refusal = r; first = n; second = 0 }) l (put_mid f (t - f) l left) s'
     unfolding operations perform
-    plain-wrote c h = record { is = λ sources. rw (part-mid) (wrote (finish (length (mid_of f k l)) s) (finish_so (length (mid_of f k l)) s) h) }
+    plain-wrote c h = record { is = λ sources. rw (part-mid) (wrote (finish (length (mid_of f (t - f) l)) s) (finish_so (length (mid_of f (t - f) l)) s) h) }
 
-    pub plain_small : FinishEnsures (finish (length (mid_of f k l)) s) s r n (mid_of f k l) left s' → n ≤ b
-    plain_small = small (finish (length (mid_of f k l)) s) (finish_so (length (mid_of f k l)) s)
+    pub plain_small : FinishEnsures (finish (length (mid_of f (t - f) l)) s) s r n (mid_of f (t - f) l) left s' → n ≤ b
+    plain_small = small (finish (length (mid_of f (t - f) l)) s) (finish_so (length (mid_of f (t - f) l)) s)
 
-    pub entries_wrote : (c : ℕ) → FinishEnsures (finish_with_entry_points (length (mid_of f k l)) s) s r n (mid_of f k l) left s' → Wrote 14 a b c s r n 0 l (put_mid f k l left) s'
+    pub entries_wrote : (c : ℕ) → FinishEnsures (finish_with_entry_points (length (mid_of f (t - f) l)) s) s r n (mid_of f (t - f) l) left s' → Wrote 14 a b c s (record { refusal = r; first = n; second = 0 }) l (put_mid f (t - f) l left) s'
     unfolding operations perform
-    entries_wrote c h = record { is = λ sources. rw (part-mid) (wrote (finish_with_entry_points (length (mid_of f k l)) s) (entries_so (length (mid_of f k l)) s) h) }
+    entries_wrote c h = record { is = λ sources. rw (part-mid) (wrote (finish_with_entry_points (length (mid_of f (t - f) l)) s) (entries_so (length (mid_of f (t - f) l)) s) h) }
 
-    pub entries_small : FinishEnsures (finish_with_entry_points (length (mid_of f k l)) s) s r n (mid_of f k l) left s' → n ≤ b
-    entries_small = small (finish_with_entry_points (length (mid_of f k l)) s) (entries_so (length (mid_of f k l)) s)
+    pub entries_small : FinishEnsures (finish_with_entry_points (length (mid_of f (t - f) l)) s) s r n (mid_of f (t - f) l) left s' → n ≤ b
+    entries_small = small (finish_with_entry_points (length (mid_of f (t - f) l)) s) (entries_so (length (mid_of f (t - f) l)) s)

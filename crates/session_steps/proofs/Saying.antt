@@ -88,7 +88,7 @@ unfolding operations perform says bytes_of
 none_stepped o a b c sources output s h = rw (get_or-eq_default operations unknown h) (record { refusal_is = refl; first_is = refl; second_is = refl; output_is = refl; session_is = refl })
 
 -- ---- setting a source
-pub set-quiet : (a b c : ℕ) (sources image : List ℕ) (s s' : Session) (k : ℕ) → part a b sources ≡ image → OperationEnsures (set (length image) (words_of image) c) s k tt s' → Quiet 0 a b c sources s k 0 0 s'
+pub set-quiet : (a b c : ℕ) (sources image : List ℕ) (s s' : Session) (k : ℕ) → part a b sources ≡ image → OperationEnsures (set (length image) (words_of image) c) s k tt s' → Quiet 0 a b c sources s (record { refusal = k; first = 0; second = 0 }) s'
 unfolding operations perform
 set-quiet a b c sources image s s' k e d = record {
   is = λ output.

@@ -1,7 +1,9 @@
 -- What a step of a session answers and leaves, as the model has it (`perform`).
-use Rattle.std.specs.Prelude.{◌≡◌, List, ℕ, zero, suc, get_or}
+use Rattle.std.specs.Prelude.{◌≡◌, List, ℕ, zero, suc, get_or, Result, Ok, Err}
 use Rattle.std.proofs.lemmas.List.Edits.{sets}
 use Rattle.base_words.specs.Words.{bytes_of}
+use Rattle.base_refusals.specs.Numbers.{number_of}
+use Rattle.base_refusals.specs.declared.Refusal.{Refusal}
 use Rattle.model.specs.Session.{Session}
 use Rattle.session_operations.specs.declared.Session.{Session as Session'}
 use Rattle.session_operations.specs.Sessions.{Valid, SameMemory, meant}
@@ -26,13 +28,18 @@ pub record Performs (x : Said) (s : Session') (answered : Answered) (output₀ o
   pub valid : Valid s'
   pub same : SameMemory s s'
 
+-- a step's two values, or its refusal, as three words
+abbrev pub shown : Result (ℕ × ℕ) Refusal → Answered
+shown (Ok values) = record { refusal = 0; first = values.0; second = values.1 }
+shown (Err refusal) = record { refusal = number_of refusal; first = 0; second = 0 }
+
 -- a step that writes nothing
-pub record Quiet (o a b c : ℕ) (sources : List ℕ) (before : Session) (refusal first second : ℕ) (behind : Session) : Type 0 where
-  pub is : (output : List ℕ) → PerformEnsures (saying o a b c sources output before) refusal first second output output behind
+pub record Quiet (o a b c : ℕ) (sources : List ℕ) (before : Session) (answered : Answered) (behind : Session) : Type 0 where
+  pub is : (output : List ℕ) → PerformEnsures (saying o a b c sources output before) answered.refusal answered.first answered.second output output behind
 
 -- a step that reads no source
-pub record Wrote (o a b c : ℕ) (before : Session) (refusal first second : ℕ) (output₀ output : List ℕ) (behind : Session) : Type 0 where
-  pub is : (sources : List ℕ) → PerformEnsures (saying o a b c sources output₀ before) refusal first second output₀ output behind
+pub record Wrote (o a b c : ℕ) (before : Session) (answered : Answered) (output₀ output : List ℕ) (behind : Session) : Type 0 where
+  pub is : (sources : List ℕ) → PerformEnsures (saying o a b c sources output₀ before) answered.refusal answered.first answered.second output₀ output behind
 
 -- a step that does neither
 pub record Recorded (o a b c : ℕ) (before : Session) (refusal value : ℕ) (behind : Session) : Type 0 where

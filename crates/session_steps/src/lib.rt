@@ -2,19 +2,18 @@
 // nothing.
 #![tactic(auto)]
 
-ghost use Rattle.std.specs.Prelude.{◌≡◌};
+ghost use Rattle.std.specs.Prelude.{◌≡◌, ◌+◌, ◌-◌, min};
 ghost use Rattle.session_steps.specs.Numbers.{Decodes};
-ghost use Rattle.base_refusals.specs.Numbers.{number_of};
 ghost use Rattle.derive_finish.specs.Told.{refusal_of};
-ghost use Rattle.session_operations.specs.Answers.{value_in, start_of, end_of};
+ghost use Rattle.session_operations.specs.Answers.{value_in};
 ghost use Rattle.session_operations.specs.Sessions.{Valid, SameMemory, meant};
-ghost use Rattle.session_steps.specs.Stepped.{saying, Performs, Quiet, Wrote};
+ghost use Rattle.session_steps.specs.Stepped.{saying, shown, Performs, Quiet, Wrote};
 
 use base_refusals::Refusal;
 use base_views::{CONSTANTS, EXPRESSIONS, GLOBALS, OVERRIDES, TYPES};
 use session_functions::{finish_with_entries, import_function, map_function_handle};
 use session_operations::{
-    Session, Span, finish_plain, has_required_special_types, import, map_span, rename_type,
+    Session, finish_plain, has_required_special_types, import, map_span, rename_type,
     set_shader_source,
 };
 
@@ -83,127 +82,82 @@ pub struct Step {
     pub c: u32,
 }
 
-// What a refused step answers.
-fn refused(refusal: Refusal) -> Answered
-    ensures { result ≡ record { refusal = number_of refusal; first = 0; second = 0 } }
+// The part of len bytes that a step's numbers a and b give, cut at the end: where it begins and where it ends.
+fn part(step: Step, len: usize) -> (usize, usize)
+    ensures { (result.0 ≡ min step.a len) × (result.1 ≡ result.0 + min step.b (len - result.0)) }
 {
-    Answered {
-        refusal: refusal.number(),
-        first: 0,
-        second: 0,
-    }
+    let from = (step.a as usize).min(len);
+    (from, from + (step.b as usize).min(len - from))
 }
 
 // A source from a part of the sources.
-fn set_step(session: &mut Session, sources: &[u8], step: Step) -> Answered
+fn set_step(session: &mut Session, sources: &[u8], step: Step) -> Result<(u32, u32), Refusal>
     requires { Valid session.old }
-    ensures quiet { Quiet 0 step.a step.b step.c sources.now (meant session.old) result.refusal result.first result.second (meant session.new) }
+    ensures quiet { Quiet 0 step.a step.b step.c sources.now (meant session.old) (shown result) (meant session.new) }
     ensures valid { Valid session.new }
     ensures same { SameMemory session.old session.new }
 {
-    let from = (step.a as usize).min(sources.len());
-    let to = from + (step.b as usize).min(sources.len() - from);
-    match set_shader_source(session, &sources[from..to], step.c) {
-        Ok(()) => Answered {
-            refusal: 0,
-            first: 0,
-            second: 0,
-        },
-        Err(refusal) => refused(refusal),
-    }
+    let (from, to) = part(step, sources.len());
+    set_shader_source(session, &sources[from..to], step.c)?;
+    Ok((0, 0))
 }
 
 // A finish without entry points into a part of the output. A twin of entries_step: one function for both would take the finish as a closure, whose contract would
 // say again what each of the two finishes promises of session and output.
-fn plain_step(session: &mut Session, output: &mut [u8], step: Step) -> Answered
+fn plain_step(session: &mut Session, output: &mut [u8], step: Step) -> Result<(u32, u32), Refusal>
     requires { Valid session.old }
-    ensures wrote { Wrote 13 step.a step.b step.c (meant session.old) result.refusal result.first result.second output.old output.new (meant session.new) }
+    ensures wrote { Wrote 13 step.a step.b step.c (meant session.old) (shown result) output.old output.new (meant session.new) }
     ensures valid { Valid session.new }
     ensures same { SameMemory session.old session.new }
 {
-    let from = (step.a as usize).min(output.len());
-    let to = from + (step.b as usize).min(output.len() - from);
-    match finish_plain(session, &mut output[from..to]) {
-        Ok(bytes) => Answered {
-            refusal: 0,
-            first: bytes as u32,
-            second: 0,
-        },
-        Err(refusal) => refused(refusal),
-    }
+    let (from, to) = part(step, output.len());
+    let bytes = finish_plain(session, &mut output[from..to])?;
+    Ok((bytes as u32, 0))
 }
 
 // A finish with the source's entry points into a part of the output.
-fn entries_step(session: &mut Session, output: &mut [u8], step: Step) -> Answered
+fn entries_step(session: &mut Session, output: &mut [u8], step: Step) -> Result<(u32, u32), Refusal>
     requires { Valid session.old }
-    ensures wrote { Wrote 14 step.a step.b step.c (meant session.old) result.refusal result.first result.second output.old output.new (meant session.new) }
+    ensures wrote { Wrote 14 step.a step.b step.c (meant session.old) (shown result) output.old output.new (meant session.new) }
     ensures valid { Valid session.new }
     ensures same { SameMemory session.old session.new }
 {
-    let from = (step.a as usize).min(output.len());
-    let to = from + (step.b as usize).min(output.len() - from);
-    match finish_with_entries(session, &mut output[from..to]) {
-        Ok(bytes) => Answered {
-            refusal: 0,
-            first: bytes as u32,
-            second: 0,
-        },
-        Err(refusal) => refused(refusal),
-    }
+    let (from, to) = part(step, output.len());
+    let bytes = finish_with_entries(session, &mut output[from..to])?;
+    Ok((bytes as u32, 0))
 }
 
 // What an import answers: the number of what was imported.
-fn imported(said: Result<u32, Refusal>) -> Answered
-    ensures { result ≡ record { refusal = refusal_of said; first = value_in said; second = 0 } }
+fn imported(said: Result<u32, Refusal>) -> Result<(u32, u32), Refusal>
+    ensures { shown result ≡ record { refusal = refusal_of said; first = value_in said; second = 0 } }
 {
-    match said {
-        Ok(value) => Answered {
-            refusal: 0,
-            first: value,
-            second: 0,
-        },
-        Err(refusal) => refused(refusal),
-    }
+    Ok((said?, 0))
 }
 
-// What mapping a span answers.
-fn mapped(said: Result<Span, Refusal>) -> Answered
-    ensures { result ≡ record { refusal = refusal_of said; first = start_of said; second = end_of said } }
-{
-    match said {
-        Ok(span) => Answered {
-            refusal: 0,
-            first: span.start,
-            second: span.end,
-        },
-        Err(refusal) => refused(refusal),
-    }
-}
-
-// One step of a session.
-pub fn perform(session: &mut Session, sources: &[u8], output: &mut [u8], step: Step) -> Answered
+// One step of a session: the two values that its operation answers, 0 where it has none.
+fn operate(
+    session: &mut Session,
+    sources: &[u8],
+    output: &mut [u8],
+    step: Step,
+) -> Result<(u32, u32), Refusal>
     requires { Valid session.old }
-    ensures { Performs (saying step.operation step.a step.b step.c sources.now output.old (meant session.old)) session.old result output.old output.new session.new }
+    ensures { Performs (saying step.operation step.a step.b step.c sources.now output.old (meant session.old)) session.old (shown result) output.old output.new session.new }
 {
-    let Ok(operation) = Operation::try_from(step.operation) else {
-        return refused(Refusal::NumberGiven);
-    };
-    match operation {
+    match Operation::try_from(step.operation)? {
         Operation::Set => set_step(session, sources, step),
         Operation::Clear => {
             session.source = None;
-            Answered {
-                refusal: 0,
-                first: 0,
-                second: 0,
-            }
+            Ok((0, 0))
         }
-        Operation::MapSpan => mapped(map_span(session.source, step.a, step.b)),
-        Operation::HasRequiredSpecialTypes => Answered {
-            refusal: 0,
-            first: has_required_special_types(session.special, session.sizes),
-            second: 0,
-        },
+        Operation::MapSpan => {
+            let span = map_span(session.source, step.a, step.b)?;
+            Ok((span.start, span.end))
+        }
+        Operation::HasRequiredSpecialTypes => {
+            let held = has_required_special_types(session.special, session.sizes);
+            Ok((held, 0))
+        }
         Operation::Finish => plain_step(session, output, step),
         Operation::FinishWithEntryPoints => entries_step(session, output, step),
         Operation::ImportType => imported(import(session, TYPES, step.a)),
@@ -216,5 +170,24 @@ pub fn perform(session: &mut Session, sources: &[u8], output: &mut [u8], step: S
         Operation::ImportFunctionIfNew | Operation::MapFunctionHandle => {
             imported(map_function_handle(session, step.a))
         }
+    }
+}
+
+// The same, what it answers as three words.
+pub fn perform(session: &mut Session, sources: &[u8], output: &mut [u8], step: Step) -> Answered
+    requires { Valid session.old }
+    ensures { Performs (saying step.operation step.a step.b step.c sources.now output.old (meant session.old)) session.old result output.old output.new session.new }
+{
+    match operate(session, sources, output, step) {
+        Ok((first, second)) => Answered {
+            refusal: 0,
+            first,
+            second,
+        },
+        Err(refusal) => Answered {
+            refusal: refusal.number(),
+            first: 0,
+            second: 0,
+        },
     }
 }

@@ -2,11 +2,11 @@ use Rattle.intake_statements.proofs.Leaves.{visible_out, visible_in, visible_kin
 use borrow.Author.Rules.{rules}
 use Rattle.intake_statements.proofs.visible.Goals as goal
 
-pub returns-then-expressions-e : goal.returns-then-expressions-e
-returns-then-expressions-e c = search (visible_out, rules)
+pub returns-then-at-until : goal.returns-then-at-until
+returns-then-at-until c = search (visible_in, rules)
 
-pub returns-then-live : goal.returns-then-live
-returns-then-live c = search (visible_in, rules)
+pub returns-else-at-until : goal.returns-else-at-until
+returns-else-at-until c = search (visible_kind, rules)
 
-pub returns-else-live : goal.returns-else-live
-returns-else-live c = search (visible_kind, rules)
+pub returns-else-e-expressions : goal.returns-else-e-expressions
+returns-else-e-expressions c = search (visible_out, rules)

@@ -1,7 +1,6 @@
 -- `finish_plain` meets its contract: refused, or finished, and then the session is a new one.
-use mathlib.Core.Path.{refl, ap}
+use mathlib.Core.Path.{refl}
 use Rattle.std.proofs.lemmas.Result.{err_from_is_err_and}
-use Rattle.derive_state.specs.Sizes.{going}
 use Rattle.derive_state.proofs.State.{arrays_same}
 use Rattle.derive_session.specs.Valid.{session_of}
 use Rattle.derive_finish.proofs.Refused.{not_zero}
@@ -14,4 +13,4 @@ returns-in_err-bytes c = let a = c.args in let v = c.view.ensures in let p = err
 
 pub returns : goal.returns
 unfolding session_of
-returns c = let a = c.args in let v = c.view.ensures in let zz = finish_done _ _ _ _ _ _ _ _ _ _ _ _ _ c.requires.session a.output.now _ _ _ (rw (v.0, v.1, v.2, v.5) at c.in_ok-bytes.ensures) refl _ c.clear_maps.ensures _ (ap going c.empty-session.ensures) in record { does = zz.0; valid = record { session = unset_valid zz.1; stacks = stacks_low c.requires.stacks zz.1.lowest }; same = record { words_same = refl; tags_same = refl; derived_same = record { log_same = refl; logtags_same = refl; starts_same = refl; maps_same = refl; buckets_same = refl }; special_same = refl; stacks_same = refl } }
+returns c = let a = c.args in let v = c.view.ensures in let zz = finish_done _ _ _ _ _ _ _ _ _ _ _ _ _ c.requires.session a.output.now _ _ _ (rw (v.0, v.1, v.2, v.5) at c.in_ok-bytes.ensures) refl _ refl _ refl in rw c.renew.ensures (record { does = zz.0; valid = record { session = unset_valid zz.1; stacks = stacks_low c.requires.stacks zz.1.lowest }; same = record { words_same = refl; tags_same = refl; derived_same = record { log_same = refl; logtags_same = refl; starts_same = refl; maps_same = refl; buckets_same = refl }; special_same = refl; stacks_same = refl } })

@@ -1,11 +1,10 @@
-use Prim.Native.Nat.{◌+◌, ◌-◌}
-use native.Mathlib.Omega.{arith}
+use Rattle.std.proofs.lemmas.Result.{err_from_is_err_and}
 use Rattle.session_steps.proofs.Saying.{set-quiet}
 use Rattle.session_steps.proofs.Parts.{part-mid}
 use Rattle.session_steps.proofs.set_step.Goals as goal
 
-pub returns-in-Ok-clause-quiet : goal.returns-in-Ok-clause-quiet
-returns-in-Ok-clause-quiet c = let x = c.args.step in let f = c.min-from in let d = c.min in let l = c.args.sources.now in let hf = f.ensures in let hd = d.ensures in set-quiet x.a x.b x.c l _ _ _ _ (part-mid x.a x.b l f.result d.result (f.result + d.result - f.result) hf hd (omega arith)) c.in-Ok.ensures.does
+pub returns-clause-quiet : goal.returns-clause-quiet
+returns-clause-quiet c = let x = c.args.step in let l = c.args.sources.now in set-quiet x.a x.b x.c l _ _ _ _ (part-mid x.a x.b l _ _ c.part-from.ensures) c.in_ok-set_shader_source.ensures.does
 
-pub returns-in-Err-clause-quiet : goal.returns-in-Err-clause-quiet
-returns-in-Err-clause-quiet c = let x = c.args.step in let f = c.min-from in let d = c.min in let l = c.args.sources.now in let hf = f.ensures in let hd = d.ensures in rw c.refused.ensures (set-quiet x.a x.b x.c l _ _ _ _ (part-mid x.a x.b l f.result d.result (f.result + d.result - f.result) hf hd (omega arith)) c.in-Err.ensures.does)
+pub returns-in_err-set_shader_source-clause-quiet : goal.returns-in_err-set_shader_source-clause-quiet
+returns-in_err-set_shader_source-clause-quiet c = let x = c.args.step in let l = c.args.sources.now in let p = err_from_is_err_and c.from_residual.result c.from_residual.ensures.1 in rw (p.1, p.2) (set-quiet x.a x.b x.c l _ _ _ _ (part-mid x.a x.b l _ _ c.part-from.ensures) c.in_err-set_shader_source.ensures.does)
