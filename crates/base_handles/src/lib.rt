@@ -41,28 +41,30 @@ pub enum RecordHandle {
     Expression(ExpressionHandle),
 }
 
-// The number of a record in its table.
-pub fn number_in(h: RecordHandle) -> u32
-    ensures { result ≡ number_in h }
-{
-    match h {
-        RecordHandle::Type(t) => t.0,
-        RecordHandle::Constant(c) => c.0,
-        RecordHandle::Override(o) => o.0,
-        RecordHandle::Global(g) => g.0,
-        RecordHandle::Expression(e) => e.0,
+impl RecordHandle {
+    // The number of the record in its table.
+    pub fn number(self) -> u32
+        ensures { result ≡ number_in self }
+    {
+        match self {
+            RecordHandle::Type(t) => t.0,
+            RecordHandle::Constant(c) => c.0,
+            RecordHandle::Override(o) => o.0,
+            RecordHandle::Global(g) => g.0,
+            RecordHandle::Expression(e) => e.0,
+        }
     }
-}
 
-// The section of a record's table.
-pub fn section_of(h: RecordHandle) -> usize
-    ensures { result ≡ code_t (table_of h) }
-{
-    match h {
-        RecordHandle::Type(_) => TYPES,
-        RecordHandle::Constant(_) => CONSTANTS,
-        RecordHandle::Override(_) => OVERRIDES,
-        RecordHandle::Global(_) => GLOBALS,
-        RecordHandle::Expression(_) => EXPRESSIONS,
+    // The section of its table.
+    pub fn section(self) -> usize
+        ensures { result ≡ code_t (table_of self) }
+    {
+        match self {
+            RecordHandle::Type(_) => TYPES,
+            RecordHandle::Constant(_) => CONSTANTS,
+            RecordHandle::Override(_) => OVERRIDES,
+            RecordHandle::Global(_) => GLOBALS,
+            RecordHandle::Expression(_) => EXPRESSIONS,
+        }
     }
 }

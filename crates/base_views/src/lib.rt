@@ -39,6 +39,11 @@ pub const ENTRIES: usize = 7;
 
 pub const SPECIAL: usize = 8;
 
+// How many functions and entry points an image may have. Limits, which stand for no kind.
+pub const MOST_FUNCTIONS: usize = 256;
+
+pub const MOST_ENTRIES: usize = 16;
+
 // The words in front of an entry point's function.
 pub const ENTRY_HEAD: usize = 7;
 
@@ -172,6 +177,16 @@ impl Image<'_> {
         ensures { result ≡ record_end k j self.entry.words.now }
     {
         end_of(self.words, k, j)
+    }
+
+    // Where it starts and where it ends.
+    pub fn record(self, k: usize, j: usize) -> (usize, usize)
+        requires tape { Tape self.words.now self.tags.now self.n }
+        requires k_bound { k < 8 }
+        requires j_bound { j < count_at k self.words.now }
+        ensures { (result.0 ≡ record_at k j self.entry.words.now) × (result.1 ≡ record_end k j self.entry.words.now) }
+    {
+        (self.record_at(k, j), self.record_end(k, j))
     }
 
     // Where the function of entry point j starts.

@@ -8,14 +8,6 @@ ghost use Rattle.derive_state.specs.Sizes.{going};
 use base_refusals::Refusal;
 use derive_state::{Derived, Special};
 
-// How many records each table has, as wider numbers.
-fn widened(counts: [u16; 8]) -> [usize; 8]
-    requires { length counts ≡ 8 }
-    ensures { result ≡ counts }
-{
-    counts.map(usize::from)
-}
-
 // Writes the derived module as bytes, with the entry points that the arrays hold, and answers how many they are; refused, the output is as it was. Its words
 // are put together in `out`, which may hold anything before and holds anything after.
 pub fn finish(
@@ -28,7 +20,5 @@ pub fn finish(
     requires special_len { (length special.now ≡ 1027) × (length out.old ≡ 16384) }
     ensures { Ended derived.now.log.now derived.now.logtags.now derived.now.starts.now special.now (going derived.now.sizes) output.old (refusal_of result) (bytes_in result) output.new }
 {
-    let counts = widened(derived.sizes.counts);
-    let pairs = derived.sizes.pairs as usize;
-    derive_image::finish(derived, counts, special, pairs, out, output)
+    derive_image::finish(derived, special, out, output)
 }

@@ -53,12 +53,18 @@ module _ (log logtags : List ℕ) (starts : List (List ℕ)) (counts : List ℕ)
   Ns = firsts_t (tabs_of log logtags (drop 1 starts) (drop 1 counts)) []
 
   module _ (order places : List ℕ) (n : ℕ) (v : AppearingEnsures (get_or counts 0 0) Ns order places n) where
-    pub order_low : (j : ℕ) → j < n → get_or order j 0 < 512
-    order_low j h = let z = v.inside j h in let y = names_few in omega arith
+    order-length : length (take n order) ≡ n
+    order-length = length-take-le n order (let z = v.order_long in let y = v.few in omega arith)
 
-    module _ (ch : List ℕ) (w : (take n ch ≡ map (λ (k : ℕ). get_or (get_or starts 0 []) k 0) (take n order)) × (length ch ≡ 512)) where
-      order-length : length (take n order) ≡ n
-      order-length = length-take-le n order (let z = v.order_long in let y = v.few in omega arith)
+    pub order_few : length (take n order) ≤ 512
+    order_few = let z = order-length in let y = v.few in omega arith
+
+    pub order_low : (j : ℕ) → j < length (take n order) → get_or (take n order) j 0 < 512
+    order_low j h = let l : j < n = (let z = order-length in omega arith) in rw (get_or-take n order j 0 l) (let z = v.inside j l in let y = names_few in omega arith)
+
+    module _ (ch : List ℕ) (w' : (take (length (take n order)) ch ≡ map (λ (k : ℕ). get_or (get_or starts 0 []) k 0) (take n order)) × (length ch ≡ 512)) where
+      w : (take n ch ≡ map (λ (k : ℕ). get_or (get_or starts 0 []) k 0) (take n order)) × (length ch ≡ 512)
+      w = rw order-length at w'
 
       chosen_at : (k : ℕ) → k < n → get_or ch k 0 ≡ get_or (get_or starts 0 []) (get_or order k 0) 0
       chosen_at k h =
@@ -131,7 +137,7 @@ module _ (log logtags : List ℕ) (starts : List (List ℕ)) (counts : List ℕ)
             pub tables-room : 20 + sizes New ≤ 16384
             tables-room = let z = ae.0 in omega arith
 
-            pub special-room : (p : ℕ) → p ≡ 20 + sizes New → p + (3 + 2 * pairs) ≤ 16384
+            pub special-room : (p : ℕ) → p ≡ 20 + sizes New → p + 3 + 2 * pairs ≤ 16384
             special-room p e = let z = ae.0 in omega arith
 
             pub finish_done : (out₀ out₁ : List ℕ) → out₁ ≡ sets (set (set out₀ 0 1) 1 (20 + a + 3 + 2 * pairs)) 2 (heads New 20 pairs)

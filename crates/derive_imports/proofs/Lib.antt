@@ -4,4 +4,3 @@ pub mod Sources
 pub mod Turns
 pub mod Renames
 pub mod Importing
-pub mod Renaming

@@ -1,154 +1,45 @@
--- A type imported under another name: the import from a view of the source in which the type has it. What the type refers to is lower, so that nothing else uses the
--- new name.
+-- A type imported under another name: the import from a view of the source in which the type has it. What the view holds is the module with that name in the type's
+-- record, so that it passes tests 3 and 4 as the source does.
 use mathlib.Core.Path.{◌≡◌, refl, sym, ap, ◌∙◌}
-use mathlib.Core.Bool.{true, false, false≢true}
-use mathlib.Core.List.{List, [], ◌∷◌, map}
+use mathlib.Core.Bool.{Bool, true}
+use mathlib.Core.List.{List, [], ◌∷◌, ◌++◌, map}
 use Prim.Native.Nat.{ℕ, zero, suc, ◌+◌, ◌-◌, ◌*◌, ◌≤◌, ◌<◌}
 use native.Mathlib.Nat.{le_refl}
 use native.Mathlib.Numerals.{add-one}
 use native.Mathlib.Omega.{arith}
+use lib.Dec.{ltb}
 use lib.ListN.{length, get_or, set, take, length-set}
-use lib.Seq.{get_or-set_same, get_or-set_other}
-use Rattle.model.specs.Outcome.{Cells, class}
-use Rattle.model.specs.Table.{NAME, type_row}
-use Rattle.model.specs.Module.{HEADER, count_at, sections}
-use Rattle.model.specs.View.{record_at, record_end}
-use Rattle.model.specs.Carry.{Lays, lays_next, carry_cells}
-use Rattle.model.specs.Between.{between, Stretch}
-use Rattle.model.specs.Tables.{Tab, names, types, constants, overrides, globals, exprs, code_t, at, Tables, rec_at, count, Maps, map_at}
-use Rattle.model.specs.References.{Place, table, target, targets, node, ref_of, refs, fold_refs, through, shift}
-use Rattle.model.specs.Imports.{Derived, unless_mapped, intern, mapped_to_t, made, commit, step_t, import_f, levels, import_t, rename, renamed}
-use Rattle.theory_records.specs.RecordLaws.{All, all_map, rest_of}
-use Rattle.theory_records.specs.TableLaws.{at_same, at_other, at-six}
-use Rattle.theory_records.specs.Well.{home, WF, rank, Lower, falls, rank_below, May, type_name, type_type, const_name, const_type, const_init, over_name, over_type, over_init, global_name, global_type, global-init, expr_type, expr_const, expr_over, expr_own}
-use Rattle.theory_records.specs.Kinds.{row_of}
-use Rattle.theory_records.specs.Tested.{laid-at}
-use Rattle.theory_records.specs.Trace.{step-home, each_cong, fuel, once_is}
-use Rattle.theory_image.specs.Sections.{start_of, cells_of}
-use Rattle.theory_image.specs.Views.{offset_start}
-use Rattle.theory_image.specs.FunctionViews.{taped_offset}
-use Rattle.theory_image.specs.Betweens.{between_next, between_none}
-use Rattle.derive_state.specs.Refers.{tab_of, went_r, target_bytes}
-use Rattle.derive_state.specs.Source.{mod_of, src_of, Source}
+use lib.Seq.{get_or-set_other, take-set-lt, map-set_same}
+use borrow.Author.Tests.{lt-ltb}
+use Rattle.std.proofs.lemmas.List.{set-append_left, set-append_right, map-set}
+use Rattle.theory_lists.specs.Booleans.{and-true, and_split}
+use Rattle.model.specs.Outcome.{Cell, Cells, class, word}
+use Rattle.model.specs.Table.{NAME, PLACE, type_row, more}
+use Rattle.model.specs.Tree.{flat_all}
+use Rattle.model.specs.Module.{Module, HEADER, count_at, offset_at, places, flat_table, sections, pairs_from, bodies, flat_module, write}
+use Rattle.model.specs.View.{record_at, record_end, tables as tablesL}
+use Rattle.model.specs.Carry.{Lays, lays_next, Each, each_none, each_next, WellFormed}
+use Rattle.model.specs.Taped.{Taped}
+use Rattle.model.specs.Numbers.{Bounds, outside, within, below, bound, caps, every, numbered}
+use Rattle.model.specs.Lower.{bases_of, types_lower, lower}
+use Rattle.model.specs.Tables.{types, code_t, at, tables, count, rec_at, upd, is_t, Maps}
+use Rattle.model.specs.Imports.{import_t, rename, renamed}
+use Rattle.theory_records.specs.Tested.{every-at}
+use Rattle.theory_records.specs.TableLaws.{at-six}
+use Rattle.theory_image.specs.Members.{each_at}
+use Rattle.theory_image.specs.Sections.{start_of, start_step, start_in, length-places, length_pairs}
+use Rattle.theory_image.specs.Views.{offset_start, table-length, at_start}
+use Rattle.theory_image.specs.FunctionViews.{Part, part_end, part-cell, taped_length, taped_record, taped_count}
+use Rattle.theory_image.specs.Betweens.{record_part}
+use Rattle.derive_state.specs.Refers.{tab_of}
 use Rattle.derive_state.specs.Flats.{special_of}
-use Rattle.derive_state.specs.Held.{cell, recs_of, functions_of, maps_of, st_of, ValidArrays, ImportEnsures, Readable, carried_by}
+use Rattle.derive_state.specs.Source.{mod_of, src_of, Source}
+use Rattle.derive_state.specs.Held.{recs_of, functions_of, maps_of, st_of, ImportOrUndoEnsures}
 use Rattle.derive_state.specs.Sizes.{Sizes}
-use Rattle.derive_state.proofs.State.{code_low, six_ext, same_refl, marks_refl}
-use Rattle.derive_imports.proofs.Growth.{Grow, then, over_grow, grow_settle, grow_each, grow_T}
-use Rattle.derive_imports.proofs.Sources.{wf, inside, stretch, record_is, small_of}
-use Rattle.derive_imports.proofs.Turns.{Turn, beside_refl, lands_then, map_is, lands_known, turn_done, carried-by, turn_last}
+use Rattle.derive_state.proofs.State.{code_low, six_ext}
+use Rattle.derive_imports.proofs.Sources.{mod_is, source_of, count_is}
 
--- type k is taken for these cells, carried
-abbrev taken : ℕ → ℕ → Cells → Derived → Derived
-taken o k cs x = intern types k (shift (carry_cells (through (mapped_to_t x)) cs) o false) x
-
--- ---- the tables with the new name
-unfoldable Below : ℕ → Tab → ℕ → Type 0
-Below k names m = Unit {0}
-Below k types m = m < k
-Below k constants m = ⊥
-Below k overrides m = ⊥
-Below k globals m = ⊥
-Below k exprs m = ⊥
-
-below_next : (T : Tables) (k m : ℕ) {u : Tab} {p : Place} → May u p → (n : ℕ) → Below k u m → rank T (home p) n < rank T u m → Below k (home p) n
-unfolding Below home rank
-below_next T k m type_name n b r = tt
-below_next T k m type_type n b r = omega arith
-below_next T k m const_name n b r = absurd b
-below_next T k m const_type n b r = absurd b
-below_next T k m const_init n b r = absurd b
-below_next T k m over_name n b r = absurd b
-below_next T k m over_type n b r = absurd b
-below_next T k m over_init n b r = absurd b
-below_next T k m global_name n b r = absurd b
-below_next T k m global_type n b r = absurd b
-below_next T k m global-init n b r = absurd b
-below_next T k m expr_type n b r = absurd b
-below_next T k m expr_const n b r = absurd b
-below_next T k m expr_over n b r = absurd b
-below_next T k m expr_own n b r = absurd b
-
-below-first : (T : Tables) (k : ℕ) {p : Place} → May types p → (n : ℕ) → rank T (home p) n < rank T types k → Below k (home p) n
-unfolding Below home rank
-below-first T k type_name n r = tt
-below-first T k type_type n r = omega arith
-
-type_rank : (T : Tables) (k x : ℕ) → k < count T types → x < rank T types k → x < 1 + (count T types + 2 * count T exprs)
-unfolding rank
-type_rank T k x h r = omega arith
-
-names_apart : types ≡ names → ⊥
-names_apart e = let z : ◌≡◌ {A = ℕ} 0 1 = cc in omega arith
-
-exprs_apart : types ≡ exprs → ⊥
-exprs_apart e = let z : ◌≡◌ {A = ℕ} 0 1 = cc in omega arith
-
-module _ (T : Tables) (k name : ℕ) where
-  rec-same : (u : Tab) (m : ℕ) → Below k u m → rec_at (renamed T k name) u m ≡ rec_at T u m
-  unfolding Below renamed rec_at
-  rec-same names m b = rw (at_other types names (set (at types T) k (rename name (get_or (at types T) k []))) T names_apart)
-  rec-same types m b = rw (at_same types (set (at types T) k (rename name (get_or (at types T) k []))) T) (get_or-set_other (at types T) k m (rename name (get_or (at types T) k [])) [] (λ e. omega arith))
-  rec-same constants m b = absurd b
-  rec-same overrides m b = absurd b
-  rec-same globals m b = absurd b
-  rec-same exprs m b = absurd b
-
-  rec-new : k < count T types → rec_at (renamed T k name) types k ≡ rename name (rec_at T types k)
-  unfolding renamed rec_at count
-  rec-new h = rw (at_same types (set (at types T) k (rename name (get_or (at types T) k []))) T) (get_or-set_same (at types T) k (rename name (get_or (at types T) k [])) [] h)
-
-  levels-same : levels (renamed T k name) ≡ levels T
-  unfolding levels renamed count
-  levels-same = rw (at_same types (set (at types T) k (rename name (rec_at T types k))) T, at_other types exprs (set (at types T) k (rename name (rec_at T types k))) T exprs_apart, length-set (at types T) k (rename name (rec_at T types k))) refl
-
-  module _ (o : ℕ) (ok : WF T) where
-    commit-same : (u : Tab) (m : ℕ) → Below k u m → (s : Derived) → commit o (renamed T k name) u m s ≡ commit o T u m s
-    unfolding commit made
-    commit-same u m b s = rw (rec-same u m b)
-
-    same-F : (f : ℕ) (u : Tab) (m : ℕ) (s : Derived) → m < count T u → Below k u m → import_f f o (renamed T k name) u m s ≡ import_f f o T u m s
-    unfolding import_f Lower
-    same-F zero u m s r b = refl
-    same-F (suc f) u m s r b =
-        ap (λ (x : Derived). unless_mapped (map_at s.maps u m) (λ z. x) s)
-        (commit-same u m b _ ∙ ap (commit o T u m) (ap (λ (c : Cells). fold_refs (refs c) (step_t (import_f f o (renamed T k name))) s) (rec-same u m b)
-        ∙ each_cong (Lower T u m) (step_t (import_f f o (renamed T k name))) (step_t (import_f f o T))
-        (λ j s' l. step-home l.2 (import_f f o (renamed T k name)) j.num s' ∙ (same-F f (home j.place) j.num s' l.0 (below_next T k m l.2 j.num b l.1) ∙ sym (step-home l.2 (import_f f o T) j.num s')))
-        (refs (rec_at T u m)) s (falls T ok u m r)))
-
-    module _ (hk : k < count T types) (hn : name < count T names) (w : ℕ) (cs : Cells) (rec : rec_at T types k ≡ (NAME, w) ∷ cs) where
-      pub new-refs : refs (rename name (rec_at T types k)) ≡ node (table names) name ∷ refs cs
-      unfolding rename refs ref_of target targets
-      new-refs = rw rec refl
-
-      rest_lower : All (Lower T types k) (refs cs)
-      unfolding refs
-      rest_lower = rest_of (Lower T types k) (target NAME) w (refs cs) (rw rec at (falls T ok types k hk))
-
-      pub new-lower : All (Lower T types k) (node (table names) name ∷ refs cs)
-      unfolding Lower home rank
-      new-lower = ((hn, omega arith, type_name), rest_lower)
-
-      -- its name first, then the rest; then it is interned
-      pub renamed_is : (s : Derived) → import_t o (renamed T k name) types k s
-          ≡ unless_mapped (map_at s.maps types k) (λ z. taken o k (rename name (rec_at T types k)) (fold_refs (node (table names) name ∷ refs cs) (step_t (import_t o T)) s)) s
-      unfolding import_t import_f commit made Lower Below levels
-      renamed_is s =
-          let r = rank_below T ok types k hk in
-          let b : 2 + (count T types + 2 * count T exprs) ≡ suc (1 + (count T types + 2 * count T exprs)) = omega arith in
-          ap (λ (f : ℕ). import_f f o (renamed T k name) types k s) (levels-same ∙ b)
-          ∙ rw (rec-new hk, new-refs)
-          (ap (λ (x : Derived). unless_mapped (map_at s.maps types k) (λ z. taken o k (rename name (rec_at T types k)) x) s)
-          (each_cong (Lower T types k) (step_t (import_f (1 + (count T types + 2 * count T exprs)) o (renamed T k name))) (step_t (import_f (2 + (count T types + 2 * count T exprs)) o T))
-          (λ j s' l.
-          step-home l.2 (import_f (1 + (count T types + 2 * count T exprs)) o (renamed T k name)) j.num s'
-          ∙ (same-F (1 + (count T types + 2 * count T exprs)) (home j.place) j.num s' l.0 (below-first T k l.2 j.num l.1)
-          ∙ (fuel o T ok (1 + (count T types + 2 * count T exprs)) (2 + (count T types + 2 * count T exprs)) (home j.place) j.num s' l.0 (type_rank T k _ hk l.1) (omega (arith, type_rank T k _ hk l.1))
-          ∙ sym (step-home l.2 (import_f (2 + (count T types + 2 * count T exprs)) o T) j.num s'))))
-          (node (table names) name ∷ refs cs) s new-lower))
-
--- ---- in the words
+-- ---- the first cell of a record replaced
 -- a record follows the header
 start_low : (rs : List Cells) (i j : ℕ) → i ≤ start_of i rs j
 unfolding start_of
@@ -156,6 +47,184 @@ start_low [] i j = le_refl _
 start_low (r ∷ rs) i zero = le_refl _
 start_low (r ∷ rs) i (suc j) = let h = start_low rs (i + length r) j in omega arith
 
+flat_set : (rs : List Cells) (i j : ℕ) (c : Cell) → 0 < length (get_or rs j []) → flat_all (set rs j (set (get_or rs j []) 0 c)) ≡ set (flat_all rs) (start_of i rs j - i) c
+unfolding flat_all start_of
+flat_set [] i j c l = refl
+flat_set (r ∷ rs) i zero c l = let z : i - i ≡ 0 = omega arith in rw z (sym (set-append_left r (flat_all rs) 0 c l))
+flat_set (r ∷ rs) i (suc j) c l =
+    let h = start_low rs (i + length r) j in
+    let z : start_of (i + length r) rs j - i - length r ≡ start_of (i + length r) rs j - (i + length r) = omega arith in
+    ap (r ++◌) (flat_set rs (i + length r) j c l) ∙ sym (set-append_right r (flat_all rs) (length r) (start_of (i + length r) rs j - i) c refl (omega arith) ∙ rw z refl)
+
+places_set : (rs : List Cells) (i j : ℕ) (r : Cells) → length r ≡ length (get_or rs j []) → places i (set rs j r) ≡ places i rs
+unfolding places
+places_set [] i j r e = refl
+places_set (x ∷ rs) i zero r e = rw e
+places_set (x ∷ rs) i (suc j) r e = ap ((PLACE, i) ∷◌) (places_set rs (i + length x) j r e)
+
+table_set : (rs : List Cells) (j : ℕ) (c : Cell) → 0 < length (get_or rs j []) → flat_table (set rs j (set (get_or rs j []) 0 c)) ≡ set (flat_table rs) (start_of (length rs) rs j) c
+unfolding flat_table
+table_set rs j c l =
+    rw (length-set rs j (set (get_or rs j []) 0 c), places_set rs (length rs) j (set (get_or rs j []) 0 c) (length-set (get_or rs j []) 0 c), flat_set rs (length rs) j c l)
+    (sym (set-append_right (places (length rs) rs) (flat_all rs) (length rs) (start_of (length rs) rs j) c (length-places rs (length rs)) (start_low rs (length rs) j)))
+
+each_set : {P : Cells → Type 0} {l : List Cells} → Each P l → (k : ℕ) (x : Cells) → P x → Each P (set l k x)
+each_set each_none k x p = each_none
+each_set (each_next q qs) zero x p = each_next p qs
+each_set (each_next q qs) (suc k) x p = each_next q (each_set qs k x p)
+
+every_set : (p : Cells → Bool) (l : List Cells) (k : ℕ) (x : Cells) → p x ≡ true → every p l ≡ true → every p (set l k x) ≡ true
+unfolding every
+every_set p [] k x h q = q
+every_set p (y ∷ l) zero x h q = and-true h (and_split (p y) (every p l) q).1
+every_set p (y ∷ l) (suc k) x h q = let s = and_split (p y) (every p l) q in and-true s.0 (every_set p l k x h s.1)
+
+lower_set : (l : List Cells) (t k : ℕ) (x : Cells) → bases_of x ≡ bases_of (get_or l k []) → types_lower (set l k x) t ≡ types_lower l t
+unfolding types_lower
+lower_set [] t k x e = refl
+lower_set (y ∷ l) t zero x e = rw e
+lower_set (y ∷ l) t (suc k) x e = rw (lower_set l (suc t) k x e)
+
+-- ---- a type's record begins with its name
+set_renamed : (name : ℕ) {r : Cells} → Lays type_row r → rename name r ≡ set r 0 (NAME, suc name)
+unfolding type_row rename
+set_renamed name (lays_next e l) = refl
+
+first_renamed : {r : Cells} → Lays type_row r → (class (get_or r 0 (0, 0)) ≡ NAME) × (0 < length r)
+unfolding type_row
+first_renamed (lays_next e l) = (refl, omega arith)
+
+lays_renamed : (name : ℕ) {r : Cells} → Lays type_row r → Lays type_row (rename name r)
+unfolding type_row rename more
+lays_renamed name (lays_next e l) = lays_next e l
+
+bases_renamed : (name : ℕ) {r : Cells} → Lays type_row r → bases_of (rename name r) ≡ bases_of r
+unfolding type_row rename bases_of
+bases_renamed name (lays_next e l) = refl
+
+within_renamed : (b : Bounds) (name : ℕ) → name < b.names → {r : Cells} → Lays type_row r → within b r ≡ true → within b (rename name r) ≡ true
+unfolding type_row rename within below bound caps
+within_renamed b name h (lays_next {w} {cs} e l) q = and-true (lt-ltb (suc name) (suc b.names) (omega arith)) (and_split (ltb w (suc b.names)) (within b cs) q).1
+
+-- ---- the module with the type's new name
+module _ (m : Module) (k name : ℕ) where
+  abbrev new_types : List Cells
+  new_types = set m.types k (rename name (get_or m.types k []))
+
+  abbrev view_module : Module
+  view_module = record { names = m.names; types = new_types; constants = m.constants; overrides = m.overrides; globals = m.globals; exprs = m.exprs; functions = m.functions; entries = m.entries; special = m.special }
+
+  tables_renamed : tables view_module ≡ renamed (tables m) k name
+  unfolding tables renamed upd rec_at at is_t code_t
+  tables_renamed = refl
+
+  outside_same : outside view_module ≡ outside m
+  unfolding outside
+  outside_same = rw (length-set m.types k (rename name (get_or m.types k [])))
+
+  module _ (well : WellFormed m) (hk : k < length m.types) where
+    lays : Lays type_row (get_or m.types k [])
+    lays = each_at well.types-ok.each k [] hk
+
+    view_well : WellFormed view_module
+    view_well = record {
+      names_ok = well.names_ok;
+      types-ok = record { few = rw (length-set m.types k (rename name (get_or m.types k []))) well.types-ok.few; each = each_set well.types-ok.each k _ (lays_renamed name lays) };
+      constants_ok = well.constants_ok;
+      overrides_ok = well.overrides_ok;
+      globals_ok = well.globals_ok;
+      exprs_ok = well.exprs_ok;
+      functions_ok = well.functions_ok;
+      entries_ok = well.entries_ok;
+      rays-ok = well.rays-ok;
+      pairs-ok = well.pairs-ok;
+    }
+
+    view_lower : lower m ≡ true → lower view_module ≡ true
+    unfolding lower
+    view_lower h = rw (lower_set m.types 0 k (rename name (get_or m.types k [])) (bases_renamed name lays)) h
+
+    name_low : name < length m.names → name < (outside m).names
+    unfolding outside
+    name_low h = h
+
+    view_numbered : name < length m.names → numbered m ≡ true → numbered view_module ≡ true
+    unfolding numbered
+    view_numbered hn h =
+        let s = and_split (every (within (outside m)) m.types) _ h in
+        rw outside_same (and-true (every_set (within (outside m)) m.types k (rename name (get_or m.types k [])) (within_renamed (outside m) name (name_low hn) lays (every-at (within (outside m)) m.types s.0 k [] hk)) s.0) s.1)
+
+    -- ---- its cells differ in one
+    types_set : flat_table new_types ≡ set (flat_table m.types) (start_of (length m.types) m.types k) (NAME, suc name)
+    types_set = ap (λ (r : Cells). flat_table (set m.types k r)) (set_renamed name lays) ∙ table_set m.types k (NAME, suc name) (first_renamed lays).1
+
+    types_long : length (flat_table new_types) ≡ length (flat_table m.types)
+    types_long = ap length types_set ∙ length-set (flat_table m.types) (start_of (length m.types) m.types k) (NAME, suc name)
+
+    abbrev place : ℕ
+    place = HEADER + (length (flat_table m.names) + start_of (length m.types) m.types k)
+
+    place_low : start_of (length m.types) m.types k < length (flat_table m.types)
+    place_low = omega (arith, start_step m.types (length m.types) k hk, start_in m.types (length m.types) (suc k) hk, table-length m.types, (first_renamed lays).1)
+
+    bodies_set : bodies (sections view_module) ≡ set (bodies (sections m)) (length (flat_table m.names) + start_of (length m.types) m.types k) (NAME, suc name)
+    unfolding bodies sections
+    bodies_set =
+        let z : length (flat_table m.names) + start_of (length m.types) m.types k - length (flat_table m.names) ≡ start_of (length m.types) m.types k = omega arith in
+        rw types_set (sym (set-append_right (flat_table m.names) _ (length (flat_table m.names)) _ (NAME, suc name) refl (omega arith) ∙ rw z (ap (flat_table m.names ++◌) (set-append_left (flat_table m.types) _ (start_of (length m.types) m.types k) (NAME, suc name) place_low))))
+
+    bodies_long : length (bodies (sections view_module)) ≡ length (bodies (sections m))
+    bodies_long = ap length bodies_set ∙ length-set (bodies (sections m)) _ (NAME, suc name)
+
+    pairs_same : pairs_from HEADER (sections view_module) ≡ pairs_from HEADER (sections m)
+    unfolding sections pairs_from
+    pairs_same = rw (length-set m.types k (rename name (get_or m.types k [])), types_long)
+
+    pairs_long : suc (suc (length (pairs_from HEADER (sections m)))) ≡ HEADER
+    unfolding sections
+    pairs_long = let h = length_pairs (sections m) HEADER in omega arith
+
+    cells_set : flat_module view_module ≡ set (flat_module m) place (NAME, suc name)
+    unfolding flat_module
+    cells_set =
+        let z : place - HEADER ≡ length (flat_table m.names) + start_of (length m.types) m.types k = omega arith in
+        rw (pairs_same, bodies_long, bodies_set) (sym (set-append_right ((PLACE, 1) ∷ (PLACE, HEADER + length (bodies (sections m))) ∷ pairs_from HEADER (sections m)) (bodies (sections m)) HEADER place (NAME, suc name) pairs_long (omega arith) ∙ rw z refl))
+
+    -- ---- in the words
+    module _ {words tags : List ℕ} {n : ℕ} (t : Taped words tags n m) (begin : ℕ) (hb : begin ≡ record_at 1 k words) (inside : k < count_at 1 words) where
+      at_place : begin ≡ place
+      unfolding tablesL sections start_of
+      at_place =
+          let a = taped_record t 1 k (omega arith) (omega (arith, taped_count t 1 (omega arith))) in
+          let b : record_at 1 k (write m) ≡ offset_at 1 (write m) + start_of (length m.types) m.types k = at_start m 1 (omega arith) k hk in
+          let c : offset_at 1 (write m) ≡ HEADER + length (flat_table m.names) = offset_start m 1 (omega arith) in
+          omega (arith, hb, a, b, c)
+
+      part : Part (flat_module m) (record_at 1 k words) (record_end 1 k words) (get_or m.types k [])
+      unfolding tablesL
+      part = record_part t 1 k (omega arith) inside
+
+      place_in : begin < n
+      place_in = omega (arith, hb, part_end part, part.within, taped_length t, (first_renamed lays).1)
+
+      place_name : NAME ≡ class (get_or (flat_module m) place (0, 0))
+      place_name =
+          let z : record_at 1 k words + 0 ≡ place = omega (arith, hb, at_place) in
+          sym (ap class (rw z at (part-cell part 0 (0, 0) (first_renamed lays).1)) ∙ (first_renamed lays).0)
+
+      view_words : take n (set words begin (name + 1)) ≡ write view_module
+      unfolding write
+      view_words =
+          take-set-lt n words begin (name + 1) place_in ∙ ap (λ (l : List ℕ). set l begin (name + 1)) t.words_are
+          ∙ rw (at_place, add-one name, cells_set) (sym (map-set word (flat_module m) place (NAME, suc name)))
+
+      view_tags : take n tags ≡ map class (flat_module view_module)
+      view_tags = t.tags_are ∙ sym (ap (map class) cells_set ∙ map-set_same class (flat_module m) place (NAME, suc name) (0, 0) place_name)
+
+      view_taped : Taped (set words begin (name + 1)) tags n view_module
+      view_taped = record { small = t.small; words_long = length-set words begin (name + 1) ∙ t.words_long; tags_long = t.tags_long; words_are = view_words; tags_are = view_tags; well = view_well }
+
+-- ---- the view of a source
 header_count : (words : List ℕ) (i v t : ℕ) → HEADER ≤ i → t < 6 → count_at t (set words i v) ≡ count_at t words
 unfolding count_at
 header_count words i v t h l = get_or-set_other words i (2 + 2 * t) v 0 (λ e. omega arith)
@@ -167,184 +236,42 @@ st_view words view log logtags starts maps special e h =
     ap (λ (m : Maps). record { recs = recs_of log logtags starts e.counts; maps = m; functions = functions_of log logtags starts e.counts; special = special_of special e.pairs })
     (six_ext _ _ (λ u. at-six u (λ t. take (count_at (code_t t) view) (get_or maps (code_t t) [])) ∙ rw (h (code_t u) (code_low u)) (sym (at-six u (λ t. take (count_at (code_t t) words) (get_or maps (code_t t) []))))))
 
-pub lands_view : (words view : List ℕ) (f : Derived → Derived) (log₀ logtags₀ : List ℕ) (starts₀ maps₀ : List (List ℕ)) (buckets₀ : List ℕ) (e r : Sizes) (log logtags : List ℕ) (starts maps : List (List ℕ)) (buckets : List ℕ) → ((t : ℕ) → t < 6 → count_at t view ≡ count_at t words)
-    → ImportEnsures view f log₀ logtags₀ starts₀ maps₀ buckets₀ e r log logtags starts maps buckets → ImportEnsures words f log₀ logtags₀ starts₀ maps₀ buckets₀ e r log logtags starts maps buckets
-lands_view words view f log₀ logtags₀ starts₀ maps₀ buckets₀ e r log logtags starts maps buckets h L = record {
-  over = λ q special. rw (← st_view words view log₀ logtags₀ starts₀ maps₀ special e h) (L.over q special);
-  is = λ q special. rw (← st_view words view log₀ logtags₀ starts₀ maps₀ special e h, ← st_view words view log logtags starts maps special r h) (L.is q special);
-  kept = L.kept;
-  beside = L.beside;
-  more = L.more;
-  below = L.below;
-  log_long = L.log_long;
-  tags_long = L.tags_long;
-  marks_stay = L.marks_stay;
-}
+module _ (words tags : List ℕ) (n : ℕ) (src : Source words tags n) (k : ℕ) (hk : k < count_at 1 words) (name : ℕ) (hn : name < count_at 0 words) (begin : ℕ) (hb : begin ≡ record_at 1 k words) where
+  type_in : k < length (mod_of words n).types
+  unfolding src_of count tables at tab_of
+  type_in = let c : count_at 1 words ≡ length (mod_of words n).types = count_is words tags n src 1 (omega arith) in omega arith
 
--- a type's record begins with its name
-first_name : {r : Cells} → Lays type_row r → (class (get_or r 0 (0, 0)) ≡ NAME) × (0 < length r)
-unfolding type_row
-first_name (lays_next e l) = (refl, omega arith)
+  name_in : name < length (mod_of words n).names
+  unfolding src_of count tables at tab_of
+  name_in = let c : count_at 0 words ≡ length (mod_of words n).names = count_is words tags n src 0 (omega arith) in omega arith
 
-between_view : (tags words : List ℕ) (i end v : ℕ) → end ≤ length words → end ≤ length tags → i < end → between tags (set words i v) i end ≡ (get_or tags i 0, v) ∷ between tags words (suc i) end
-between_view tags words i end v h g l =
-    between_next tags (set words i v) i end l g (rw (length-set words i v) h)
-    ∙ rw (get_or-set_same words i v 0 (omega arith)) (ap ((get_or tags i 0, v) ∷◌) (rest (end - suc i) (suc i) (omega arith) (omega arith)))
-  where
-    rest : (d j : ℕ) → i < j → d ≡ end - j → between tags (set words i v) j end ≡ between tags words j end
-    rest zero j a e = between_none tags (set words i v) j end (omega arith) ∙ sym (between_none tags words j end (omega arith))
-    rest (suc d) j a e =
-        between_next tags (set words i v) j end (omega arith) g (rw (length-set words i v) h)
-        ∙ rw (get_or-set_other words i j v 0 (λ q. omega arith)) (ap ((get_or tags j 0, get_or words j 0) ∷◌) (rest d (suc j) (omega arith) (omega arith)))
-        ∙ sym (between_next tags words j end (omega arith) g h)
+  taped : Taped (set words begin (name + 1)) tags n (view_module (mod_of words n) k name)
+  taped = view_taped (mod_of words n) k name src.taped.well type_in src.taped begin hb hk
 
-module _ (words tags : List ℕ) (n : ℕ) (src : Source words tags n) (o k : ℕ) (hk : k < count_at 1 words) (name : ℕ) (hn : name < count_at 0 words) where
-  abbrev T : Tables
-  T = src_of words n
+  pub view_in : begin < n
+  view_in = place_in (mod_of words n) k name src.taped.well type_in src.taped begin hb hk
 
-  abbrev F : Derived → Derived
-  F = import_t o (renamed (src_of words n) k name) types k
+  pub view_source : Source (set words begin (name + 1)) tags n
+  view_source = source_of taped (view_numbered (mod_of words n) k name src.taped.well type_in name_in src.three) (view_lower (mod_of words n) k name src.taped.well type_in src.four)
 
-  ok : WF T
-  ok = wf words tags n src
+  src_renamed : src_of (set words begin (name + 1)) n ≡ renamed (src_of words n) k name
+  unfolding src_of
+  src_renamed = ap tables (mod_is taped) ∙ tables_renamed (mod_of words n) k name
 
-  hk' : k < count T types
+  pub view_count : (t : ℕ) → t < 6 → count_at t (set words begin (name + 1)) ≡ count_at t words
+  view_count t h = header_count words begin (name + 1) t (omega (arith, at_place (mod_of words n) k name src.taped.well type_in src.taped begin hb hk)) h
+
+  -- the import from the view is that of the source in which the type has the name
+  pub undoes_view : (o : ℕ) (log₀ logtags₀ : List ℕ) (starts₀ maps₀ : List (List ℕ)) (e r : Sizes) (log logtags : List ℕ) (starts maps : List (List ℕ)) (buckets : List ℕ)
+      → ImportOrUndoEnsures (set words begin (name + 1)) (import_t o (src_of (set words begin (name + 1)) n) (tab_of 1) k) log₀ logtags₀ starts₀ maps₀ e r log logtags starts maps buckets
+      → ImportOrUndoEnsures words (import_t o (renamed (src_of words n) k name) types k) log₀ logtags₀ starts₀ maps₀ e r log logtags starts maps buckets
   unfolding tab_of
-  hk' = inside words tags n src 1 k (omega arith) hk
-
-  hn' : name < count T names
-  unfolding tab_of
-  hn' = inside words tags n src 0 name (omega arith) hn
-
-  first : (class (get_or (rec_at T types k) 0 (0, 0)) ≡ NAME) × (0 < length (rec_at T types k))
-  unfolding row_of src_of
-  first = first_name (laid-at (mod_of words n) src.taped.well src.three src.four types k hk')
-
-  -- the record is its name, and the rest
-  split : (cs : Cells) → (class (get_or cs 0 (0, 0)) ≡ NAME) × (0 < length cs) → (w : ℕ) (ds : Cells) (c : ℕ) → cs ≡ (c, w) ∷ ds → cs ≡ (NAME, w) ∷ ds
-  split cs f w ds c e = e ∙ ap (λ (x : ℕ). (x, w) ∷ ds) (rw e at f.0)
-
-  module _ (begin end : ℕ) (hb : begin ≡ record_at 1 k words) (he : end ≡ record_end 1 k words) where
-    st : Stretch words tags begin end
-    st = stretch words tags n src 1 k (omega arith) hk begin end hb he
-
-    is_rec : between tags words begin end ≡ rec_at T types k
-    unfolding tab_of
-    is_rec = record_is words tags n src 1 k (omega arith) hk begin end hb he
-
-    pub some_words : begin < end
-    some_words = go (end - begin) refl
-      where
-        go : (d : ℕ) → d ≡ end - begin → begin < end
-        go zero e = let z : length (rec_at T types k) ≡ 0 = ap length (sym is_rec ∙ between_none tags words begin end (omega arith)) in let y = first.1 in absurd (omega arith)
-        go (suc d) e = omega arith
-
-    pub next_word : begin + 1 ≤ 16384
-    next_word = let a = some_words in let b = st.small in omega arith
-
-    abbrev rest : Cells
-    rest = between tags words (suc begin) end
-
-    -- what is left when the name is imported
-    abbrev pub G : Derived → Derived
-    G s = taken o k (rename name (rec_at (src_of words n) types k)) (fold_refs (refs (between tags words (suc begin) end)) (step_t (import_t o (src_of words n))) s)
-
-    rec : rec_at T types k ≡ (NAME, get_or words begin 0) ∷ rest
-    rec = split (rec_at T types k) first (get_or words begin 0) rest (get_or tags begin 0) (sym is_rec ∙ between_next tags words begin end some_words st.in_tags st.in_words)
-
-    tag_name : get_or tags begin 0 ≡ NAME
-    tag_name = rw (sym is_rec ∙ between_next tags words begin end some_words st.in_tags st.in_words) at first.0
-
-    pub rename-ends : (s : Derived) → Grow (fold_refs (refs (between tags words (suc begin) end)) (step_t (import_t o T)) s) (G s)
-    rename-ends s = grow_settle types k _ _
-
-    -- in the view the name is the new one
-    view_is : between tags (set words begin (name + 1)) begin end ≡ rename name (rec_at T types k)
-    unfolding rename
-    view_is = between_view tags words begin end (name + 1) st.in_words st.in_tags some_words ∙ rw (tag_name, add-one name, rec) refl
-
-    low_view : All (Lower T types k) (refs (between tags (set words begin (name + 1)) begin end))
-    low_view = rw (view_is, new-refs T k name o ok hk' hn' (get_or words begin 0) rest rec) (new-lower T k name o ok hk' hn' (get_or words begin 0) rest rec)
-
-    pub view_readable : (kinds : List ℕ) → kinds ≡ target_bytes → Readable (set words begin (name + 1)) tags kinds begin end
-    view_readable kinds e = record {
-      stretch = record { rising = st.rising; small = st.small; in_words = rw (length-set words begin (name + 1)) st.in_words; in_tags = st.in_tags };
-      words_long = length-set words begin (name + 1) ∙ src.taped.words_long;
-      tags_long = src.taped.tags_long;
-      small = all_map (refs (between tags (set words begin (name + 1)) begin end)) (λ j l. small_of words tags n src types k j l) low_view;
-      targets_are = e;
-    }
-
-    behind_header : HEADER ≤ begin
-    unfolding record_at
-    behind_header = rw hb (omega (arith, taped_offset src.taped 1 (omega arith) ∙ offset_start (mod_of words n) 1 (omega arith), start_low (map cells_of (sections (mod_of words n))) HEADER 1))
-
-    pub view_count : (t : ℕ) → t < 6 → count_at t (set words begin (name + 1)) ≡ count_at t words
-    view_count t h = header_count words begin (name + 1) t behind_header h
-
-    -- after the name: the loop begins, and at its end the record is interned
-    module _ (log₁ logtags₁ : List ℕ) (starts₁ maps₁ : List (List ℕ)) (buckets₁ : List ℕ) (e₁ : Sizes) (nf : e₁.full ≡ false) (K₁ : ValidArrays log₁ logtags₁ starts₁ maps₁ buckets₁ e₁) where
-      pub rename-first : Turn words tags n o 1 k (refs (between tags words (suc begin) end)) log₁ logtags₁ starts₁ maps₁ buckets₁ e₁ end log₁ logtags₁ starts₁ maps₁ buckets₁ e₁ (begin + 1)
-      unfolding tab_of
-      rename-first = rw (add-one begin) (record {
-        within = some_words;
-        going = nf;
-        kept = K₁;
-        beside = beside_refl starts₁ e₁;
-        more = le_refl _;
-        below = same_refl e₁.loglen log₁ logtags₁;
-        marks_stay = marks_refl buckets₁ K₁.marks_long;
-        lower = (new-lower T k name o ok hk' hn' (get_or words begin 0) rest rec).1;
-        same = λ special. refl;
-      })
-
-      module _ (log logtags : List ℕ) (starts maps : List (List ℕ)) (buckets : List ℕ) (e : Sizes) (i : ℕ) (inv : Turn words tags n o 1 k (refs (between tags words (suc begin) end)) log₁ logtags₁ starts₁ maps₁ buckets₁ e₁ end log logtags starts maps buckets e i) (h : end ≤ i) where
-        settled : (special : List ℕ) → G (st_of words log₁ logtags₁ starts₁ maps₁ special e₁) ≡ intern types k (shift (carried_by (went_r maps) tags (set words begin (name + 1)) begin end) o false) (st_of words log logtags starts maps special e)
-        unfolding carried_by tab_of
-        settled special =
-            rw (← turn_done words tags n src o 1 k (omega arith) hk log₁ logtags₁ starts₁ maps₁ buckets₁ e₁ nf K₁ G (refs rest) (λ sp. rename-ends (st_of words log₁ logtags₁ starts₁ maps₁ sp e₁)) begin end hb he log logtags starts maps buckets e i inv h special, view_is, carried-by words tags n src o 1 k (omega arith) hk log₁ logtags₁ starts₁ maps₁ buckets₁ e₁ nf K₁ G (refs rest) (λ sp. rename-ends (st_of words log₁ logtags₁ starts₁ maps₁ sp e₁)) begin end hb he log logtags starts maps buckets e i inv special (rename name (rec_at T types k)) (rw (← view_is) low_view)) refl
-
-        pub rename_settled : (r : Sizes) (log' logtags' : List ℕ) (starts' maps' : List (List ℕ)) (buckets' : List ℕ)
-            → ImportEnsures (set words begin (name + 1)) (intern types k (shift (carried_by (went_r maps) tags (set words begin (name + 1)) begin end) o false)) log logtags starts maps buckets e r log' logtags' starts' maps' buckets'
-            → ImportEnsures words G log₁ logtags₁ starts₁ maps₁ buckets₁ e₁ r log' logtags' starts' maps' buckets'
-        unfolding tab_of
-        rename_settled r log' logtags' starts' maps' buckets' L =
-            turn_last words tags n src o 1 k (omega arith) hk log₁ logtags₁ starts₁ maps₁ buckets₁ e₁ nf K₁ G (refs rest) (λ sp. rename-ends (st_of words log₁ logtags₁ starts₁ maps₁ sp e₁)) begin end hb he log logtags starts maps buckets e i inv (shift (carried_by (went_r maps) tags (set words begin (name + 1)) begin end) o false) settled r log' logtags' starts' maps' buckets'
-            (lands_view words (set words begin (name + 1)) _ log logtags starts maps buckets e r log' logtags' starts' maps' buckets' view_count L)
-
-    -- from the first state
-    module _ (log₀ logtags₀ : List ℕ) (starts₀ maps₀ : List (List ℕ)) (buckets₀ : List ℕ) (e₀ : Sizes) (nf : e₀.full ≡ false) (K₀ : ValidArrays log₀ logtags₀ starts₀ maps₀ buckets₀ e₀) where
-      abbrev S₀ : List ℕ → Derived
-      S₀ special = st_of words log₀ logtags₀ starts₀ maps₀ special e₀
-
-      map-here : (special : List ℕ) → map_at (S₀ special).maps types k ≡ cell maps₀ 1 k
-      unfolding code_t
-      map-here special = map_is words log₀ logtags₀ starts₀ maps₀ special e₀ types k hk
-
-      is_new : (special : List ℕ) → F (S₀ special) ≡ unless_mapped (cell maps₀ 1 k) (λ z. G (import_t o T names name (S₀ special))) (S₀ special)
-      unfolding fold_refs step_t
-      is_new special = renamed_is T k name o ok hk' hn' (get_or words begin 0) rest rec (S₀ special) ∙ rw (map-here special) refl
-
-      pub rename-known : (cell maps₀ 1 k ≡ 0 → ⊥) → ImportEnsures words F log₀ logtags₀ starts₀ maps₀ buckets₀ e₀ e₀ log₀ logtags₀ starts₀ maps₀ buckets₀
-      rename-known ne = lands_known words tags n src o 1 k (omega arith) hk log₀ logtags₀ starts₀ maps₀ buckets₀ e₀ nf K₀ F (λ special. is_new special ∙ once_is o T (λ r. r ≡ S₀ special) (cell maps₀ 1 k) _ (S₀ special) (λ z. absurd (ne z)) (λ g. refl))
-
-      module _ (new : cell maps₀ 1 k ≡ 0) (e₁ : Sizes) (log₁ logtags₁ : List ℕ) (starts₁ maps₁ : List (List ℕ)) (buckets₁ : List ℕ) (L : ImportEnsures words (import_t o T names name) log₀ logtags₀ starts₀ maps₀ buckets₀ e₀ e₁ log₁ logtags₁ starts₁ maps₁ buckets₁) where
-        begins : (special : List ℕ) → F (S₀ special) ≡ G (import_t o T names name (S₀ special))
-        unfolding unless_mapped
-        begins special = is_new special ∙ rw new refl
-
-        pub rename_full : e₁.full ≡ true → ImportEnsures words F log₀ logtags₀ starts₀ maps₀ buckets₀ e₀ e₁ log₁ logtags₁ starts₁ maps₁ buckets₁
-        rename_full q = record {
-          over = λ z special. rw (begins special) (over_grow _ (then (grow_each (import_t o T) (grow_T o T) (refs rest) (import_t o T names name (S₀ special))) (rename-ends (import_t o T names name (S₀ special)))) (L.over q special));
-          is = λ z. absurd (false≢true (sym z ∙ q));
-          kept = λ z. absurd (false≢true (sym z ∙ q));
-          beside = λ z. absurd (false≢true (sym z ∙ q));
-          more = λ z. absurd (false≢true (sym z ∙ q));
-          below = L.below;
-          log_long = L.log_long;
-          tags_long = L.tags_long;
-          marks_stay = L.marks_stay;
-        }
-
-        pub rename_then : e₁.full ≡ false → (r : Sizes) (log logtags : List ℕ) (starts maps : List (List ℕ)) (buckets : List ℕ) → ImportEnsures words G log₁ logtags₁ starts₁ maps₁ buckets₁ e₁ r log logtags starts maps buckets → ImportEnsures words F log₀ logtags₀ starts₀ maps₀ buckets₀ e₀ r log logtags starts maps buckets
-        rename_then q r log logtags starts maps buckets M = lands_then words log₀ logtags₀ starts₀ maps₀ buckets₀ e₀ K₀ (import_t o T names name) e₁ log₁ logtags₁ starts₁ maps₁ buckets₁ L q G r log logtags starts maps buckets M F begins
+  undoes_view o log₀ logtags₀ starts₀ maps₀ e r log logtags starts maps buckets L₀ =
+      let L = rw src_renamed at L₀ in
+      let was : (special : List ℕ) → st_of (set words begin (name + 1)) log₀ logtags₀ starts₀ maps₀ special e ≡ st_of words log₀ logtags₀ starts₀ maps₀ special e = λ special. st_view words _ log₀ logtags₀ starts₀ maps₀ special e view_count in
+      record {
+        over = λ q special. rw (← was special) (L.over q special);
+        stays = λ q. (λ special. rw (← was special, ← st_view words (set words begin (name + 1)) log logtags starts maps special e view_count) ((L.stays q).0 special), (L.stays q).1);
+        is = λ q. (λ special. rw (← was special, ← st_view words (set words begin (name + 1)) log logtags starts maps special r view_count) ((L.is q).0 special), (L.is q).1);
+        beside = L.beside;
+      }

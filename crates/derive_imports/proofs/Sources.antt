@@ -23,7 +23,7 @@ use Rattle.theory_records.specs.Tested.{tested_wf, kinds_at}
 use Rattle.theory_image.specs.FunctionViews.{Part, taped_length}
 use Rattle.theory_image.specs.Betweens.{part-between, table-count, record_part}
 use Rattle.theory_image.specs.Modules.{write_read}
-use Rattle.derive_state.specs.Refers.{tab_of, Small, target_bytes}
+use Rattle.derive_state.specs.Refers.{tab_of, Small}
 use Rattle.derive_state.specs.Source.{held_by, mod_of, src_of, Source}
 use Rattle.derive_state.specs.Held.{Nameless, Readable}
 
@@ -128,13 +128,12 @@ module _ (words tags : List ℕ) (n : ℕ) (src : Source words tags n) where
       pub record_lower : All (Lower (src_of words n) (tab_of t) k) (refs (between tags words begin end))
       record_lower = rw record_is (falls (src_of words n) wf (tab_of t) k inside)
 
-      pub readable : (table : List ℕ) → table ≡ target_bytes → Readable words tags table begin end
-      readable table e = record {
+      pub readable : Readable words tags begin end
+      readable = record {
         stretch = stretch;
         words_long = src.taped.words_long;
         tags_long = src.taped.tags_long;
         small = all_map (refs (between tags words begin end)) (λ j l. small_of (tab_of t) k j l) record_lower;
-        targets_are = e;
       }
 
       pub plain_name : t ≡ 0 → Nameless (between tags words begin end)

@@ -2,17 +2,18 @@
 use mathlib.Core.Path.{◌≡◌, refl, ◌∙◌}
 use mathlib.Core.Bool.{Bool, true, false, cond}
 use mathlib.Core.List.{List, []}
-use Prim.Native.Nat.{ℕ, zero, suc, ◌-◌, ◌≤◌, ◌<◌, pred}
+use Prim.Native.Nat.{ℕ, zero, suc, ◌+◌, ◌-◌, ◌≤◌, ◌<◌, pred}
 use native.Mathlib.Omega.{arith}
 use lib.Dec.{ltb}
 use borrow.Author.Tests.{lt-ltb, le-ltb}
 use Rattle.model.specs.Tables.{Tab, names, types, constants, overrides, globals, exprs, code_t, Tables, count}
-use Rattle.model.specs.References.{table, own, function, Target, copied, start, upto, ref, opt, target, Node, ref_of, fold_refs}
+use Rattle.model.specs.References.{Place, table, own, function, Target, copied, start, upto, ref, opt, target, Node, ref_of, fold_refs}
 use Rattle.model.specs.Imports.{Derived, step_t}
 use Rattle.theory_records.specs.RecordLaws.{All}
 use Rattle.theory_records.specs.Well.{home, rank, Lower}
-use Rattle.derive_state.specs.Refers.{code_p, target_of, tab_of}
+use Rattle.derive_state.specs.Refers.{code_p, target_of, unspanned, tab_of}
 use Rattle.derive_state.specs.Source.{if_some, refers_to, less, number_of}
+use Rattle.derive_state.proofs.Classes.{code_meant}
 
 pub step_is : (imp : Tab → ℕ → Derived → Derived) (g : Target) (w : ℕ) (rest : List Node) (s : Derived) → fold_refs (ref_of g w rest) (step_t imp) s ≡ fold_refs rest (step_t imp) (cond (ltb (refers_to g w) 6) (imp (tab_of (refers_to g w)) (number_of g w) s) s)
 unfolding ref_of fold_refs step_t refers_to if_some number_of less target_of code_p code_t tab_of
@@ -89,6 +90,19 @@ pred_is : (w : ℕ) → pred w ≡ less w
 unfolding less
 pred_is zero = refl
 pred_is (suc w) = refl
+
+-- the code of what a word refers to, by what the code says of its class
+pub code_none : (s w : ℕ) → copied ≡ unspanned (target s) → 6 ≡ target_of (target s)
+unfolding target_of
+code_none s w is = code_meant s w is
+
+pub code_ref : (s w : ℕ) {p : Place} → ref p ≡ unspanned (target s) → code_p p ≡ target_of (target s)
+unfolding target_of
+code_ref s w is = code_meant s w is
+
+pub code_opt : (s w : ℕ) {p : Place} → opt p ≡ unspanned (target s) → 8 + code_p p ≡ target_of (target s)
+unfolding target_of
+code_opt s w is = code_meant s w is
 
 module _ (s w u : ℕ) (is : u ≡ target_of (target s)) where
   pub to_ref : u < 6 → (u ≡ refers_to (target s) w) × (w ≡ number_of (target s) w)

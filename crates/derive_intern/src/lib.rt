@@ -7,21 +7,22 @@ ghost use Rattle.model.specs.Module.{count_at};
 ghost use Rattle.model.specs.Between.{between};
 ghost use Rattle.model.specs.References.{shift, index_of, alike as alikeOf};
 ghost use Rattle.model.specs.Imports.{intern as settled};
-ghost use Rattle.derive_state.specs.Refers.{tab_of, went_r, target_bytes};
+ghost use Rattle.derive_state.specs.Refers.{tab_of, went_r};
 ghost use Rattle.derive_state.specs.Sizes.{going};
 ghost use Rattle.derive_state.specs.Marks.{MARKS, place_r, Left};
+ghost use Rattle.derive_intern.specs.Buckets.{Tells};
 ghost use Rattle.derive_state.specs.Held.{row, cell, rec_at, recs_at, ValidArrays, Valid, Imports, Readable, Nameless, carried_by};
 
 use base_views::Image;
 use derive_state::{
     Buckets, Derived, DerivedMut, Full, ShaderSource, Sizes, alike, alike_cell, bucket_of, carried,
-    with_record, words_left, write,
+    write,
 };
 
 // Whether the record at s is what the source's words from `at` to `end` become, ignoring spans: the same as `alike`, but the last word is compared first, since
 // records that are not equal mostly differ there.
 fn equals_record(image: Image, derived: &Derived, at: usize, end: usize, s: usize) -> bool
-    requires readable { Readable image.words.now image.tags.now target_bytes at end }
+    requires readable { Readable image.words.now image.tags.now at end }
     requires s_bound { (s + suc (get_or derived.now.log.now s 0) ≤ 16384) × (length derived.now.log.now ≡ 16384) × (length derived.now.logtags.now ≡ 16384) }
     ensures { result ≡ alikeOf (rec_at derived.now.log.now derived.now.logtags.now s) (carried_by (went_r derived.now.maps.now) image.entry.tags.now image.entry.words.now at end) }
 {
@@ -29,7 +30,7 @@ fn equals_record(image: Image, derived: &Derived, at: usize, end: usize, s: usiz
     let may_equal = n == 0
         || derived.log[s] as usize == n
             && alike_cell(
-                derived.logtags[s + n],
+                derived.logtags[s + n] as u32,
                 derived.log[s + n],
                 image.tags[end - 1],
                 carried(derived.maps, image.tags[end - 1], image.words[end - 1]),
@@ -39,18 +40,36 @@ fn equals_record(image: Image, derived: &Derived, at: usize, end: usize, s: usiz
 
 // The first of table t's n records that is, ignoring spans, what the source's words become.
 fn find(image: Image, derived: &Derived, at: usize, end: usize, t: usize, n: usize) -> Option<usize>
-    requires readable { Readable image.words.now image.tags.now target_bytes at end }
+    requires readable { Readable image.words.now image.tags.now at end }
     requires t_bound { (t < 8) × (n ≤ 512) × (length derived.now.log.now ≡ 16384) × (length derived.now.logtags.now ≡ 16384) × (length (row derived.now.starts.now t) ≡ 512) }
     requires by_index { (k : ℕ) → k < n → cell derived.now.starts.now t k + suc (get_or derived.now.log.now (cell derived.now.starts.now t k) 0) ≤ 16384 }
     ensures { MatchOption result (n ≡ index_of (recs_at derived.now.log.now derived.now.logtags.now (take n (row derived.now.starts.now t))) (carried_by (went_r derived.now.maps.now) image.entry.tags.now image.entry.words.now at end)) (λ j. (j < n) × (j ≡ index_of (recs_at derived.now.log.now derived.now.logtags.now (take n (row derived.now.starts.now t))) (carried_by (went_r derived.now.maps.now) image.entry.tags.now image.entry.words.now at end))) }
 {
-    for j in 0..n {
-        let s = derived.starts[t][j] as usize;
-        if equals_record(image, derived, at, end, s) {
-            return Some(j);
-        }
+    (0..n).find(|j| equals_record(image, derived, at, end, derived.starts[t][*j] as usize))
+}
+
+// What a bucket shows: no record, a record's number, or that records of several numbers have this bucket.
+#[derive(Clone, Copy)]
+enum Bucket {
+    Empty,
+    One(usize),
+    Several,
+}
+
+// A bucket of several, as the array has it. The C interface lends the buckets as numbers of two bytes that are cleared to 0, so an empty bucket is 0 there, and a
+// record's number has 1 added.
+const SEVERAL: u16 = 65535;
+
+// What bucket p shows.
+fn bucket_at(buckets: &Buckets, p: usize) -> Bucket
+    requires { (p < MARKS) × (length buckets.now ≡ MARKS) }
+    ensures { Tells (get_or buckets.now p 0) result }
+{
+    match buckets[p] {
+        0 => Bucket::Empty,
+        SEVERAL => Bucket::Several,
+        v => Bucket::One(v as usize - 1),
     }
-    None
 }
 
 // Puts number k into bucket p.
@@ -58,11 +77,10 @@ fn set_bucket(buckets: &mut Buckets, p: usize, k: usize)
     requires { (p < MARKS) × (k < 512) × (length buckets.old ≡ MARKS) }
     ensures { Left buckets.old p k buckets.new }
 {
-    if buckets[p] == 0 {
-        buckets[p] = (k + 1) as u16;
-        return;
-    }
-    buckets[p] = 65535;
+    buckets[p] = match bucket_at(buckets, p) {
+        Bucket::Empty => (k + 1) as u16,
+        Bucket::One(_) | Bucket::Several => SEVERAL,
+    };
 }
 
 // The same as `find`, by bucket p.
@@ -74,28 +92,19 @@ fn find_by_bucket(
     t: usize,
     p: usize,
 ) -> Option<usize>
-    requires readable { Readable image.words.now image.tags.now target_bytes at end }
+    requires readable { Readable image.words.now image.tags.now at end }
     requires t_bound { (t < 6) × (p ≡ place_r t (carried_by (went_r derived.now.maps.now) image.tags.now image.words.now at end)) × (p < MARKS) }
     requires valid_arrays { ValidArrays derived.now.log.now derived.now.logtags.now derived.now.starts.now derived.now.maps.now derived.now.buckets.now (going derived.now.sizes) }
     ensures { MatchOption result (get_or derived.now.sizes.counts t 0 ≡ index_of (recs_at derived.now.log.now derived.now.logtags.now (take (get_or derived.now.sizes.counts t 0) (row derived.now.starts.now t))) (carried_by (went_r derived.now.maps.now) image.entry.tags.now image.entry.words.now at end)) (λ j. (j < get_or derived.now.sizes.counts t 0) × (j ≡ index_of (recs_at derived.now.log.now derived.now.logtags.now (take (get_or derived.now.sizes.counts t 0) (row derived.now.starts.now t))) (carried_by (went_r derived.now.maps.now) image.entry.tags.now image.entry.words.now at end))) }
 {
     let n = derived.sizes.counts[t] as usize;
-    let v = derived.buckets[p] as usize;
-    if v == 0 {
-        return None;
+    let starts = &derived.starts[t];
+    match bucket_at(derived.buckets, p) {
+        Bucket::Empty => None,
+        Bucket::One(j) if j < n && alike(image, derived, at, end, starts[j] as usize) => Some(j),
+        Bucket::One(_) => None,
+        Bucket::Several => find(image, derived, at, end, t, n),
     }
-    if v == 65535 {
-        return find(image, derived, at, end, t, n);
-    }
-    let j = v - 1;
-    if n <= j {
-        return None;
-    }
-    let s = derived.starts[t][j] as usize;
-    if alike(image, derived, at, end, s) {
-        return Some(j);
-    }
-    None
 }
 
 // Maps number k of table t to the record that the source's words from `at` to `end` become: an equal one that is found, or a new one.
@@ -108,7 +117,7 @@ pub fn intern(
     at: usize,
     end: usize,
 ) -> Result<Sizes, Full>
-    requires readable { Readable source.image.words.now source.image.tags.now target_bytes at end }
+    requires readable { Readable source.image.words.now source.image.tags.now at end }
     requires t_bound { (t < 6) × (k < count_at t source.image.words.now) × (k < 512) }
     requires nameless { t ≡ 0 → Nameless (between source.image.tags.now source.image.words.now at end) }
     requires valid_arrays { Valid derived.old ends }
@@ -122,10 +131,7 @@ pub fn intern(
         derived.maps[t][k] = (j + 1) as u32;
         return Ok(ends);
     }
-    if n == 512 {
-        return Err(Full);
-    }
-    if words_left(ends) < 1 + (end - at) {
+    if n == 512 || ends.words_left() < 1 + (end - at) {
         return Err(Full);
     }
     derived.log[loglen] = (end - at) as u32;
@@ -141,5 +147,5 @@ pub fn intern(
     derived.starts[t][n] = loglen as u32;
     derived.maps[t][k] = (n + 1) as u32;
     set_bucket(derived.buckets, p, n);
-    Ok(with_record(ends, t, 1 + (end - at)))
+    Ok(ends.with_record(t, 1 + (end - at)))
 }

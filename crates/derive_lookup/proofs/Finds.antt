@@ -26,7 +26,7 @@ use Rattle.theory_image.specs.Betweens.{table-count}
 use Rattle.theory_image.specs.Members.{each_at}
 use Rattle.theory_order.specs.Numbered.{functions_sound}
 use Rattle.redirect_calls.proofs.Places.{name_is_lem, start_in, many}
-use Rattle.derive_state.specs.Refers.{tab_of, target_bytes}
+use Rattle.derive_state.specs.Refers.{tab_of}
 use Rattle.derive_state.specs.Flats.{function_of}
 use Rattle.derive_state.specs.Source.{mod_of, src_of, Source}
 use Rattle.derive_state.specs.Held.{recs_at, recs_of, functions_of, st_of, Readable}
@@ -82,8 +82,8 @@ module _ (words tags : List ℕ) (n : ℕ) (src : Source words tags n) (five : n
       name_few = let a = name_in_lem in let b = count_few words tags n src 0 (omega arith) in omega arith
 
       module _ (from to : ℕ) (hb : from ≡ record_at 0 (v - 1) words) (he : to ≡ record_end 0 (v - 1) words) where
-        pub name_reads : Readable words tags target_bytes from to
-        name_reads = readable words tags n src 0 (v - 1) (omega arith) name_in_lem from to hb he target_bytes refl
+        pub name_reads : Readable words tags from to
+        name_reads = readable words tags n src 0 (v - 1) (omega arith) name_in_lem from to hb he
 
         name_text_lem : between tags words from to ≡ recT (tables (mod_of words n)) names (pred (name_word (function (mod_of words n) f)))
         unfolding src_of tab_of

@@ -1,6 +1,5 @@
 pub mod Compares
 pub mod Lasts
-pub mod Seeking
 pub mod Bears
 pub mod Finds
 pub mod Firsts

@@ -11,7 +11,6 @@ ghost use Rattle.model.specs.References.{alike as alikeOf, index_of};
 ghost use Rattle.model.specs.Bodies.{last_of};
 ghost use Rattle.derive_state.specs.Flats.{function_of};
 ghost use Rattle.derive_state.specs.Source.{mod_of, Source};
-ghost use Rattle.derive_state.specs.Refers.{target_bytes};
 ghost use Rattle.derive_state.specs.Held.{row, rec_at, recs_at, Readable};
 ghost use Rattle.derive_lookup.specs.Bearing.{Names, Went, Heads, Bearing, KnownEnsures, plus_one};
 ghost use Rattle.derive_state.specs.Sizes.{going};
@@ -19,9 +18,10 @@ ghost use Rattle.derive_state.specs.Sizes.{going};
 use base_views::{FUNCTIONS, Image, NAMES};
 use derive_state::{Derived, alike_cell};
 
-// Whether the record at s equals the source's words from `at` to `end`.
+// Whether the record at s equals the source's words from `at` to `end`: what `alike` says of a name, which refers to nothing. `alike` carries each word through the
+// maps all the same: with it in this place, linking 940 calls of a function of a long name takes 4.0 % more instructions, and 67 functions that call all lower ones 1.1 %.
 fn equals_name(image: Image, derived: &Derived, at: usize, end: usize, s: usize) -> bool
-    requires readable { Readable image.words.now image.tags.now target_bytes at end }
+    requires readable { Readable image.words.now image.tags.now at end }
     requires s_bound { (s + suc (get_or derived.now.log.now s 0) ≤ 16384) × (length derived.now.log.now ≡ 16384) × (length derived.now.logtags.now ≡ 16384) }
     ensures { result ≡ alikeOf (rec_at derived.now.log.now derived.now.logtags.now s) (between image.entry.tags.now image.entry.words.now at end) }
 {
@@ -31,7 +31,7 @@ fn equals_name(image: Image, derived: &Derived, at: usize, end: usize, s: usize)
     for j in at..end {
         let q = s + 1 + (j - at);
         if !alike_cell(
-            derived.logtags[q],
+            derived.logtags[q] as u32,
             derived.log[q],
             image.tags[j],
             image.words[j],
@@ -42,9 +42,10 @@ fn equals_name(image: Image, derived: &Derived, at: usize, end: usize, s: usize)
     true
 }
 
-// The first of the n names that equals the source's words from `at` to `end`; or n (a number, not an Option: `known` goes on with it as the number of a name).
+// The first of the n names that equals the source's words from `at` to `end`; or n. A number and no Option: what `known` tells is by its definition the last function
+// that has this number for its name, also where the number is n, and that no function has n is more than `known` requires.
 fn find_name(image: Image, derived: &Derived, at: usize, end: usize) -> usize
-    requires readable { Readable image.words.now image.tags.now target_bytes at end }
+    requires readable { Readable image.words.now image.tags.now at end }
     requires names { Names derived.now.log.now derived.now.logtags.now (row derived.now.starts.now 0) (get_or derived.now.sizes.counts 0 0) }
     ensures { (result ≡ index_of (recs_at derived.now.log.now derived.now.logtags.now (take (get_or derived.now.sizes.counts 0 0) (row derived.now.starts.now 0))) (between image.entry.tags.now image.entry.words.now at end)) × (result ≤ 512) }
 {
@@ -56,7 +57,7 @@ fn find_name(image: Image, derived: &Derived, at: usize, end: usize) -> usize
 
 // Whether name m - 1 equals the source's words from `at` to `end`.
 fn is_mapped_name(image: Image, derived: &Derived, m: usize, at: usize, end: usize) -> bool
-    requires readable { Readable image.words.now image.tags.now target_bytes at end }
+    requires readable { Readable image.words.now image.tags.now at end }
     requires names { Names derived.now.log.now derived.now.logtags.now (row derived.now.starts.now 0) (get_or derived.now.sizes.counts 0 0) }
     ensures { result ≡ true → Went derived.now.log.now derived.now.logtags.now (row derived.now.starts.now 0) (get_or derived.now.sizes.counts 0 0) (between image.entry.tags.now image.entry.words.now at end) m }
 {
@@ -67,7 +68,7 @@ fn is_mapped_name(image: Image, derived: &Derived, m: usize, at: usize, end: usi
 
 // The same as `find_name`, but name m - 1 is tried first.
 fn find_name_from(image: Image, derived: &Derived, m: usize, at: usize, end: usize) -> usize
-    requires readable { Readable image.words.now image.tags.now target_bytes at end }
+    requires readable { Readable image.words.now image.tags.now at end }
     requires names { Names derived.now.log.now derived.now.logtags.now (row derived.now.starts.now 0) (get_or derived.now.sizes.counts 0 0) }
     ensures { (result ≡ index_of (recs_at derived.now.log.now derived.now.logtags.now (take (get_or derived.now.sizes.counts 0 0) (row derived.now.starts.now 0))) (between image.entry.tags.now image.entry.words.now at end)) × (result ≤ 512) }
 {
@@ -102,8 +103,7 @@ pub fn known(image: Image, derived: &Derived, f: usize) -> Option<u32>
 {
     let s = image.record_at(FUNCTIONS, f);
     let k = image.words[s] as usize - 1;
-    let at = image.record_at(NAMES, k);
-    let end = image.record_end(NAMES, k);
+    let (at, end) = image.record(NAMES, k);
     let m = derived.maps[NAMES][k] as usize;
     let d = find_name_from(image, derived, m, at, end);
     last(derived, (d + 1) as u32)

@@ -1,14 +1,18 @@
 -- Whether words call a function of a kind, and whether a function or the functions of entry points do.
 use mathlib.Core.Path.{◌≡◌, refl, sym, ap, ap₂, ◌∙◌}
-use mathlib.Core.Bool.{Bool, true, false, cond}
+use mathlib.Core.Bool.{Bool, true, false, ◌&&◌, ◌||◌, cond}
 use mathlib.Core.List.{List, [], ◌∷◌, ◌++◌}
-use Prim.Native.Nat.{ℕ, zero, suc, ◌+◌, ◌≤◌, ◌<◌}
+use Prim.Native.Nat.{ℕ, zero, suc, ◌+◌, ◌-◌, ◌≤◌, ◌<◌}
 use native.Mathlib.Numerals.{add-one}
 use native.Mathlib.Omega.{arith}
 use lib.Dec.{eqb}
 use lib.ListN.{length, get_or, drop}
 use lib.Seq.{drop-cons}
-use borrow.Author.Tests.{eqb-true, eq-eqb}
+use borrow.Author.Tests.{eqb-true, eqb-false, eq-eqb}
+use mathlib.Core.Logic.{⊎_elim}
+use Rattle.std.proofs.Common.{drop_of_length-le}
+use Rattle.std.specs.List.{list_any, range_with_len}
+use Rattle.derive_state.proofs.State.{same_or}
 use Rattle.theory_lists.specs.Lists.{looked_at}
 use Rattle.theory_lists.specs.Booleans.{bool_same}
 use Rattle.model.specs.Table.{CALLEE}
@@ -32,7 +36,7 @@ use Rattle.order_callees.proofs.Marking.{picked-one, picked_none, picked-end}
 use Rattle.theory_order.specs.Numbered.{numbered-known, entries_known}
 use Rattle.derive_state.specs.Flats.{no_entry}
 use Rattle.derive_state.specs.Source.{mod_of, Source}
-use Rattle.derive_rings.specs.Rings.{Scannable}
+use Rattle.derive_rings.specs.Rings.{Scannable, Meets, none, here, later}
 
 -- ---- one number
 -- k is one of the set
@@ -46,52 +50,58 @@ holds_is set k h =
     (λ e. let q = any_in (eqb k) (members set) e in rw (eqb-true k q.0 q.2) (members_in set q.0 q.1).1)
 
 -- ---- words
-pub record Asking (words tags : List ℕ) (at end m : ℕ) (p : ℕ → Bool) (j : ℕ) : Type 0 where
-  pub high : j ≤ end
-  pub known : Each (λ x. x < m) (picked words tags j end)
-  pub rest : any (picked words tags j end) p ≡ any (picked words tags at end) p
-
 head_of : {m x : ℕ} {xs : List ℕ} → Each (λ x. x < m) (x ∷ xs) → x < m
 head_of (each_next h hs) = h
 
 tail_of : {m x : ℕ} {xs : List ℕ} → Each (λ x. x < m) (x ∷ xs) → Each (λ x. x < m) xs
 tail_of (each_next h hs) = hs
 
-module _ {words tags : List ℕ} {at end m : ℕ} (p : ℕ → Bool) (S : Scannable words tags at end m) where
-  pub begin : Asking words tags at end m p at
-  begin = record { high = S.rising; known = S.known; rest = refl }
+or_cond : (a b : Bool) → cond a true b ≡ a || b
+or_cond true b = refl
+or_cond false b = refl
 
-  module _ {j : ℕ} (s : Asking words tags at end m p j) where
-    pub finish : end ≤ j → false ≡ any (picked words tags at end) p
-    unfolding any
-    finish h =
-        let q : j ≡ end = omega (arith, s.high) in
-        let e : picked words tags j end ≡ [] = rw q (picked-end words tags end) in
-        rw e at s.rest
+pub any_same : {m : ℕ} (p q : ℕ → Bool) → ((x : ℕ) → x < m → p x ≡ q x) → {xs : List ℕ} → Each (λ x. x < m) xs → any xs p ≡ any xs q
+unfolding any
+any_same p q h each_none = refl
+any_same p q h (each_next {a = x} l ls) = rw (h x l, any_same p q h ls)
 
-    module _ (h : j < end) where
-      a : end ≤ length words
-      a = omega (arith, S.within, S.words_long)
+-- a call of one of which p holds
+abbrev pub calls_p : List ℕ → List ℕ → (ℕ → Bool) → ℕ → Bool
+calls_p words tags p k = eqb (get_or tags k 0) CALLEE && p (get_or words k 0)
 
-      b : end ≤ length tags
-      b = omega (arith, S.within, S.tags_long)
+module _ {words tags : List ℕ} {at end m : ℕ} (S : Scannable words tags at end m) where
+  in_words : end ≤ length words
+  in_words = omega (arith, S.within, S.words_long)
 
-      pub pass : (get_or tags j 0 ≡ CALLEE → ⊥) → Asking words tags at end m p (j + 1)
-      pass e = let q = picked_none words tags j end h a b e in record { high = omega arith; known = rw q at s.known; rest = rw q at s.rest }
+  in_tags : end ≤ length tags
+  in_tags = omega (arith, S.within, S.tags_long)
 
-      module _ (e : get_or tags j 0 ≡ CALLEE) (w : ℕ) (we : w ≡ get_or words j 0) where
-        pub may : w < m
-        may = rw we (head_of (rw (picked-one words tags j end h a b e) at s.known))
+  low_from : (d j : ℕ) → j + d ≡ end → Each (λ x. x < m) (picked words tags j end) → (k : ℕ) → j ≤ k → k < end → get_or tags k 0 ≡ CALLEE → get_or words k 0 < m
+  low_from zero j e ls k a b c = absurd (omega arith)
+  low_from (suc d) j e ls k a b c = ⊎_elim
+      (λ (q : k ≡ j). rw q (head_of (rw (picked-one words tags j end (omega arith) in_words in_tags (rw q at c)) at ls)))
+      (λ (ne : k ≡ j → ⊥). low_from d (j + 1) (omega arith) (later (eqb (get_or tags j 0) CALLEE) refl) k (omega arith) b c)
+      (same_or k j)
+    where
+      later : (x : Bool) → eqb (get_or tags j 0) CALLEE ≡ x → Each (λ x. x < m) (picked words tags (j + 1) end)
+      later true q = tail_of (rw (picked-one words tags j end (omega arith) in_words in_tags (eqb-true (get_or tags j 0) CALLEE q)) at ls)
+      later false q = rw (picked_none words tags j end (omega arith) in_words in_tags (eqb-false (get_or tags j 0) CALLEE q)) at ls
 
-        cut : cond (p w) true (any (picked words tags (j + 1) end) p) ≡ any (picked words tags at end) p
-        unfolding any
-        cut = rw we (sym (ap (λ l. any l p) (picked-one words tags j end h a b e)) ∙ s.rest)
+  -- what is called is among the first m
+  pub low : (k : ℕ) → at ≤ k → k < end → get_or tags k 0 ≡ CALLEE → get_or words k 0 < m
+  low = low_from (end - at) at (let r = S.rising in omega arith) S.known
 
-        pub hit : p w ≡ true → true ≡ any (picked words tags at end) p
-        hit t = rw t at cut
+  asks_from : (p : ℕ → Bool) (d j : ℕ) → j + d ≡ end → list_any (calls_p words tags p) (range_with_len j d) ≡ any (picked words tags j end) p
+  unfolding any
+  asks_from p zero j e = let q : j ≡ end = omega arith in rw (q, picked-end words tags end)
+  asks_from p (suc d) j e = go (eqb (get_or tags j 0) CALLEE) refl (asks_from p d (j + 1) (omega arith))
+    where
+      go : (x : Bool) → eqb (get_or tags j 0) CALLEE ≡ x → list_any (calls_p words tags p) (range_with_len (j + 1) d) ≡ any (picked words tags (j + 1) end) p → (x && p (get_or words j 0)) || list_any (calls_p words tags p) (range_with_len (j + 1) d) ≡ any (picked words tags j end) p
+      go true q r = rw (picked-one words tags j end (omega arith) in_words in_tags (eqb-true (get_or tags j 0) CALLEE q), ← r) (sym (or_cond (p (get_or words j 0)) _))
+      go false q r = r ∙ rw (picked_none words tags j end (omega arith) in_words in_tags (eqb-false (get_or tags j 0) CALLEE q)) refl
 
-        pub miss : p w ≡ false → Asking words tags at end m p (j + 1)
-        miss f = record { high = omega arith; known = tail_of (rw (picked-one words tags j end h a b e) at s.known); rest = rw f at cut }
+  pub asks : (p : ℕ → Bool) → list_any (calls_p words tags p) (range_with_len at (end - at)) ≡ any (picked words tags at end) p
+  asks p = asks_from p (end - at) at (let r = S.rising in omega arith)
 
 wider : {a b : ℕ} → a ≤ b → {l : List ℕ} → Each (λ j. j < a) l → Each (λ j. j < b) l
 wider h each_none = each_none
@@ -131,6 +141,14 @@ module _ (words tags : List ℕ) (n : ℕ) (src : Source words tags n) (f : ℕ)
       }
 
 -- ---- entry points
+-- a test of places that are told
+module _ {post : ℕ → ℕ → Bool → Type 0} {words : List ℕ} {e a b : ℕ} {r : Bool} (h : e < count_at 7 words) (ha : a ≡ record_at 7 e words + entry_head_words) (hb : b ≡ record_end 7 e words) (t : post a b r) where
+  pub meets_here : r ≡ true → Meets post words e true
+  meets_here q = here h (rw (← ha, ← hb, ← q) t)
+
+  pub meets_later : r ≡ false → {s : Bool} → Meets post words (e + 1) s → Meets post words e s
+  meets_later q m = later h (rw (← ha, ← hb, ← q) t) m
+
 any_append : (p : ℕ → Bool) (xs ys : List ℕ) → any (xs ++ ys) p ≡ cond (any xs p) true (any ys p)
 unfolding any
 any_append p [] ys = refl
@@ -140,13 +158,6 @@ any_append p (x ∷ xs) ys = go (p x) (any_append p xs ys)
     go true e = refl
     go false e = e
 
-pub record Looking (es : List Entry) (p : ℕ → Bool) (j : ℕ) : Type 0 where
-  pub high : j ≤ length es
-  pub rest : any (callees_of (drop j es)) p ≡ any (callees_of es) p
-
-pub look : (es : List Entry) (p : ℕ → Bool) → Looking es p 0
-look es p = record { high = omega arith; rest = refl }
-
 module _ {words tags : List ℕ} {n : ℕ} (src : Source words tags n) where
   abbrev es : List Entry
   es = (mod_of words n).entries
@@ -154,36 +165,26 @@ module _ {words tags : List ℕ} {n : ℕ} (src : Source words tags n) where
   many : count_at 7 words ≡ length es
   many = taped_entries src.taped
 
-  pub none_left : {c j : ℕ} {p : ℕ → Bool} → c ≡ count_at 7 words → Looking es p j → c ≤ j → false ≡ any (callees_of es) p
-  unfolding callees_of any
-  none_left {j = j} hc l h = let e : drop j es ≡ [] = past es j (omega (arith, many)) in rw e at l.rest
-    where
-      past : (xs : List Entry) (i : ℕ) → length xs ≤ i → drop i xs ≡ []
-      past [] zero h = refl
-      past [] (suc i) h = refl
-      past (x ∷ xs) zero h = absurd (omega arith)
-      past (x ∷ xs) (suc i) h = past xs i (omega arith)
-
   module _ {c j : ℕ} (hc : c ≡ count_at 7 words) (h : j < c) where
     pub entry_in_lem : j < count_at 7 words
     entry_in_lem = omega arith
 
-    abbrev here : Entry
-    here = get_or es j no_entry
+    abbrev this : Entry
+    this = get_or es j no_entry
 
     inside : j < length es
     inside = omega (arith, many)
 
     module _ {from to : ℕ} (hf : from ≡ record_at 7 j words + entry_head_words) (ht : to ≡ record_end 7 j words) where
-      called : picked words tags from to ≡ callees here.function
+      called : picked words tags from to ≡ callees this.function
       unfolding picked
       called =
-          let s = taped_entry src.taped j here (looked_at es j no_entry inside) in
+          let s = taped_entry src.taped j this (looked_at es j no_entry inside) in
           rw (hf, ht) (ap₂ picks (part_tags s.held s.part) (part_words s.held s.part) ∙ cells_function s.well)
 
       pub scannable : Scannable words tags from to (count_at 6 words)
       scannable =
-          let s = (taped_entry src.taped j here (looked_at es j no_entry inside)).part in
+          let s = (taped_entry src.taped j this (looked_at es j no_entry inside)).part in
           let k = each_at (entries_known (mod_of words n) src.taped.well src.three) j no_entry inside in
           record {
             words_long = src.taped.words_long;
@@ -193,17 +194,20 @@ module _ {words tags : List ℕ} {n : ℕ} (src : Source words tags n) where
             known = rw (called, taped_functions src.taped) k;
           }
 
-      module _ {p : ℕ → Bool} (l : Looking es p j) {r : Bool} (re : r ≡ any (picked words tags from to) p) where
-        split : cond r true (any (callees_of (drop (j + 1) es)) p) ≡ any (callees_of es) p
-        unfolding callees_of
-        split =
-            ap (λ b. cond b true (any (callees_of (drop (j + 1) es)) p)) (re ∙ ap (λ l. any l p) called)
-            ∙ sym (any_append p (callees here.function) (callees_of (drop (j + 1) es)))
-            ∙ ap (λ l. any (callees_of l) p) (sym (drop-cons es j no_entry inside ∙ ap (λ i. here ∷ drop i es) (sym (add-one j))))
-            ∙ l.rest
+  -- what a test of the words of entry points says, where it says whether one of which p holds is called
+  split : (p : ℕ → Bool) (j : ℕ) (h : j < count_at 7 words) {b : Bool} → b ≡ any (picked words tags (record_at 7 j words + entry_head_words) (record_end 7 j words)) p → {r : Bool} → r ≡ cond b true (any (callees_of (drop (j + 1) es)) p) → r ≡ any (callees_of (drop j es)) p
+  unfolding callees_of
+  split p j h hb e =
+      e
+      ∙ ap (λ b. cond b true (any (callees_of (drop (j + 1) es)) p)) (hb ∙ ap (λ l. any l p) (called refl h refl refl))
+      ∙ sym (any_append p (callees (get_or es j no_entry).function) (callees_of (drop (j + 1) es)))
+      ∙ ap (λ l. any (callees_of l) p) (sym (drop-cons es j no_entry (omega (arith, many)) ∙ ap (λ i. get_or es j no_entry ∷ drop i es) (sym (add-one j))))
 
-        pub entry_hit : r ≡ true → true ≡ any (callees_of es) p
-        entry_hit e = rw e at split
+  meets_from : (p : ℕ → Bool) {post : ℕ → ℕ → Bool → Type 0} → ((from to : ℕ) (b : Bool) → post from to b → b ≡ any (picked words tags from to) p) → {j : ℕ} {r : Bool} → Meets post words j r → r ≡ any (callees_of (drop j es)) p
+  unfolding callees_of any
+  meets_from p law (none {e} h) = let q : drop e es ≡ [] = drop_of_length-le es (omega (arith, many)) in rw q refl
+  meets_from p law (here {e} h t) = split p e h (law _ _ true t) refl
+  meets_from p law (later {e} h f m) = split p e h (law _ _ false f) (meets_from p law m)
 
-        pub entry_miss : r ≡ false → Looking es p (j + 1)
-        entry_miss e = record { high = omega (arith, inside); rest = rw e at split }
+  pub meets_is : (p : ℕ → Bool) {post : ℕ → ℕ → Bool → Type 0} → ((from to : ℕ) (b : Bool) → post from to b → b ≡ any (picked words tags from to) p) → {r : Bool} → Meets post words 0 r → r ≡ any (callees_of es) p
+  meets_is p law m = meets_from p law m

@@ -1,6 +1,6 @@
 -- From sets of marks to the model: unknown names, the stuck functions, and what meets one of them.
 use mathlib.Core.Path.{◌≡◌, refl, sym, ap, ◌∙◌}
-use mathlib.Core.Bool.{Bool, true, false, cond, false≢true}
+use mathlib.Core.Bool.{Bool, true, false, cond, not, false≢true}
 use mathlib.Core.Logic.{◌⊎◌, inl, inr}
 use mathlib.Core.List.{List, [], ◌∷◌}
 use Prim.Native.Nat.{ℕ, ◌≤◌, ◌<◌}
@@ -31,7 +31,10 @@ use Rattle.derive_state.specs.Source.{mod_of, Source}
 use Rattle.derive_state.specs.Held.{st_of}
 use Rattle.derive_state.specs.Sizes.{Sizes}
 use Rattle.derive_imports.proofs.Sources.{mod_is}
-use Rattle.derive_lookup.specs.Bearing.{KnownEnsures}
+use Rattle.std.specs.Prelude.{Option}
+use Rattle.std.specs.Option.{is_some}
+use Rattle.derive_lookup.specs.Bearing.{plus_one, KnownEnsures}
+use Rattle.derive_lookup.proofs.Counted.{counted, not_counted}
 use Rattle.derive_rings.specs.Rings.{unknown_by, Unknowns, Stuck, RingsEnsures}
 use Rattle.derive_rings.proofs.Sieving.{Sieve, sieved, still_low}
 use Rattle.derive_rings.proofs.Meeting.{left_meet, waiting_few, left_has, left_calls}
@@ -60,14 +63,11 @@ module _ (words : List ℕ) (n : ℕ) (log logtags : List ℕ) (starts : List (L
   unfolding unknown known st_of
   same-unknown maps special f = refl
 
-  module _ (f r : ℕ) (k : KnownEnsures words n log logtags starts e f r) where
-    pub is_known : (r ≡ 0 → ⊥) → is_unknown f ≡ false
-    unfolding unknown
-    is_known h = ne_eqb _ 0 (λ q. h (k.is [] [] ∙ q))
-
-    pub is_unknown_lem : r ≡ 0 → is_unknown f ≡ true
-    unfolding unknown
-    is_unknown_lem h = eq-eqb _ 0 (sym (k.is [] []) ∙ h)
+  -- as `known` tells it
+  pub unknown_is : (f : ℕ) (o : Option ℕ) → KnownEnsures words n log logtags starts e f (plus_one o) → (b : Bool) → is_some o ≡ not b → b ≡ is_unknown f
+  unfolding unknown
+  unknown_is f o k true h = sym (eq-eqb _ 0 (sym (k.is [] []) ∙ not_counted o h))
+  unknown_is f o k false h = sym (ne_eqb _ 0 (λ q. counted o h (k.is [] [] ∙ q)))
 
   pub unknowns : (began set : List ℕ) (c i : ℕ) → c ≡ count_at 6 words → c ≤ 256 → Below (count_at 6 words) began → Sieve is_unknown c began set i → c ≤ i → Unknowns words n log logtags starts e began set
   unknowns began set c i hc small low s h =

@@ -1,7 +1,9 @@
 -- Refusal 22 as sets of marks: the functions of unknown name, those of them that are stuck, and whether an import would meet one. None of it depends on maps or
 -- special types, so each holds with all of them.
-use Rattle.std.specs.Prelude.{◌≡◌, Bool, List, [], ℕ, ◌≤◌, ◌<◌, length}
+use Rattle.std.specs.Prelude.{◌≡◌, Bool, true, false, List, [], ℕ, ◌+◌, ◌≤◌, ◌<◌, length}
 use Rattle.model.specs.Module.{count_at}
+use Rattle.model.specs.View.{record_at, record_end}
+use Rattle.model.specs.FunctionView.{entry_head_words}
 use Rattle.model.specs.Carry.{Each}
 use Rattle.model.specs.Calls.{keep}
 use Rattle.model.specs.Session.{unknown, stuck, meets_ring}
@@ -38,3 +40,9 @@ pub record Scannable (words tags : List ℕ) (at end m : ℕ) : Type 0 where
   pub rising : at ≤ end
   pub within : end ≤ 16384
   pub known : Each (λ j. j < m) (picked words tags at end)
+
+-- whether one of the entry points from number e on meets a test of the words of its function
+pub data Meets (post : ℕ → ℕ → Bool → Type 0) (words : List ℕ) : ℕ → Bool → Type 0 where
+  none : {e : ℕ} → count_at 7 words ≤ e → Meets post words e false
+  here : {e : ℕ} → e < count_at 7 words → post (record_at 7 e words + entry_head_words) (record_end 7 e words) true → Meets post words e true
+  later : {e : ℕ} {r : Bool} → e < count_at 7 words → post (record_at 7 e words + entry_head_words) (record_end 7 e words) false → Meets post words (e + 1) r → Meets post words e r

@@ -4,8 +4,10 @@
 // there is no such ring.
 #![tactic(auto)]
 
-ghost use Rattle.std.specs.Prelude.{◌≡◌, true, [], ◌∷◌, ◌<◌, eqb};
+ghost use Rattle.std.specs.Prelude.{◌≡◌, true, [], ◌∷◌, ℕ, ◌+◌, ◌<◌, eqb};
 ghost use Rattle.model.specs.Module.{count_at};
+ghost use Rattle.model.specs.View.{record_at, record_end};
+ghost use Rattle.model.specs.FunctionView.{entry_head_words};
 ghost use Rattle.model.specs.Names.{named};
 ghost use Rattle.model.specs.Calls.{any};
 ghost use Rattle.model.specs.Callees.{callees as callees_of};
@@ -15,7 +17,7 @@ ghost use Rattle.order_ranks.specs.Marks.{members, Below};
 ghost use Rattle.order_callees.specs.Gathering.{picked, Gathered};
 ghost use Rattle.derive_state.specs.Source.{mod_of, Source};
 ghost use Rattle.derive_lookup.specs.Bearing.{Bearing};
-ghost use Rattle.derive_rings.specs.Rings.{unknown_by, Unknowns, Stuck, RingsEnsures, Scannable};
+ghost use Rattle.derive_rings.specs.Rings.{unknown_by, Unknowns, Stuck, RingsEnsures, Scannable, Meets};
 ghost use Rattle.derive_state.specs.Sizes.{going};
 
 use base_classes::CALLEE;
@@ -24,6 +26,17 @@ use derive_lookup::known;
 use derive_state::Derived;
 use order_callees::gather_requirements;
 use order_ranks::{FunctionSet, clear, left};
+
+// Whether the name of function f is unknown: no derived function has it.
+fn is_unknown(image: Image, derived: &Derived, f: usize) -> bool
+    requires source { Source image.words.now image.tags.now image.n }
+    requires n_value { named (mod_of image.words.now image.n) ≡ true }
+    requires bearing { Bearing derived.now.log.now derived.now.logtags.now derived.now.starts.now (going derived.now.sizes) }
+    requires f_bound { f < count_at 6 image.words.now }
+    ensures { result ≡ unknown_by image.entry.words.now image.entry.n derived.now.log.now derived.now.logtags.now derived.now.starts.now (going derived.now.sizes) f }
+{
+    known(image, derived, f).is_none()
+}
 
 // Those of a set whose names are unknown.
 fn unknown(image: Image, derived: &Derived, began: FunctionSet) -> FunctionSet
@@ -36,11 +49,8 @@ fn unknown(image: Image, derived: &Derived, began: FunctionSet) -> FunctionSet
     let functions = count(image.words, FUNCTIONS);
     let mut set = began;
     for f in 0..functions {
-        if began.has(f) {
-            let is_known = known(image, derived, f).is_some();
-            if is_known {
-                set.leave(f);
-            }
+        if began.has(f) && !is_unknown(image, derived, f) {
+            set.leave(f);
         }
     }
     set
@@ -78,8 +88,17 @@ fn calls_one(image: Image, at: usize, end: usize, set: &FunctionSet) -> bool
     requires { Scannable image.words.now image.tags.now at end 256 }
     ensures { result ≡ any (picked image.entry.words.now image.entry.tags.now at end) (λ i. any (members set.now.0) (eqb i)) }
 {
-    for k in at..end {
-        if image.tags[k] == CALLEE && set.has(image.words[k] as usize) {
+    (at..end).any(|k| image.tags[k] == CALLEE && set.has(image.words[k] as usize))
+}
+
+// Whether one of the entry points' functions meets a test, which is given where its words start and where they end.
+fn any_entry<F: Fn(usize, usize) -> bool>(image: Image, test: F) -> bool
+    requires source { Source image.words.now image.tags.now image.n }
+    requires tests { (e : ℕ) → e < count_at 7 image.words.now → F.pre test (record_at 7 e image.words.now + entry_head_words) (record_end 7 e image.words.now) }
+    ensures { Meets (F.post test) image.entry.words.now 0 result }
+{
+    for e in 0..count(image.words, ENTRIES) {
+        if test(image.entry_function(e), image.record_end(ENTRIES, e)) {
             return true;
         }
     }
@@ -91,15 +110,7 @@ fn entries_call(image: Image, set: &FunctionSet) -> bool
     requires { Source image.words.now image.tags.now image.n }
     ensures { result ≡ any (calleesOfAll (mod_of image.entry.words.now image.entry.n).entries) (λ i. any (members set.now.0) (eqb i)) }
 {
-    let entries = count(image.words, ENTRIES);
-    for e in 0..entries {
-        let at = image.entry_function(e);
-        let end = image.record_end(ENTRIES, e);
-        if calls_one(image, at, end, set) {
-            return true;
-        }
-    }
-    false
+    any_entry(image, |at, end| calls_one(image, at, end, set))
 }
 
 // Whether the words from `at` to `end` call a function of unknown name.
@@ -110,15 +121,8 @@ fn calls_unknown(image: Image, derived: &Derived, at: usize, end: usize) -> bool
     requires scannable { Scannable image.words.now image.tags.now at end (count_at 6 image.words.now) }
     ensures { result ≡ any (picked image.entry.words.now image.entry.tags.now at end) (unknown_by image.entry.words.now image.entry.n derived.now.log.now derived.now.logtags.now derived.now.starts.now (going derived.now.sizes)) }
 {
-    for k in at..end {
-        if image.tags[k] == CALLEE {
-            let f = image.words[k] as usize;
-            if known(image, derived, f).is_none() {
-                return true;
-            }
-        }
-    }
-    false
+    (at..end).any(|k| image.tags[k] == CALLEE
+        && is_unknown(image, derived, image.words[k] as usize))
 }
 
 // Whether function f calls one of unknown name: where not, neither it nor one that it calls is stuck.
@@ -129,8 +133,7 @@ fn calls_unknown_name(image: Image, derived: &Derived, f: usize) -> bool
     requires f_bound { f < count_at 6 image.words.now }
     ensures { result ≡ any (callees_of (function (mod_of image.entry.words.now image.entry.n) f)) (unknown_by image.entry.words.now image.entry.n derived.now.log.now derived.now.logtags.now derived.now.starts.now (going derived.now.sizes)) }
 {
-    let at = image.record_at(FUNCTIONS, f);
-    let end = image.record_end(FUNCTIONS, f);
+    let (at, end) = image.record(FUNCTIONS, f);
     calls_unknown(image, derived, at, end)
 }
 
@@ -160,7 +163,7 @@ pub fn follow_rings(image: Image, derived: &Derived, f: usize) -> bool
     requires f_bound { f < count_at 6 image.words.now }
     ensures { RingsEnsures (f ∷ []) image.entry.words.now image.entry.n derived.now.log.now derived.now.logtags.now derived.now.starts.now (going derived.now.sizes) result }
 {
-    known(image, derived, f).is_none()
+    is_unknown(image, derived, f)
         && calls_unknown_name(image, derived, f)
         && stuck(image, derived).has(f)
 }
@@ -172,15 +175,7 @@ fn entries_lead(image: Image, derived: &Derived) -> bool
     requires bearing { Bearing derived.now.log.now derived.now.logtags.now derived.now.starts.now (going derived.now.sizes) }
     ensures { result ≡ any (calleesOfAll (mod_of image.entry.words.now image.entry.n).entries) (unknown_by image.entry.words.now image.entry.n derived.now.log.now derived.now.logtags.now derived.now.starts.now (going derived.now.sizes)) }
 {
-    let entries = count(image.words, ENTRIES);
-    for e in 0..entries {
-        let at = image.entry_function(e);
-        let end = image.record_end(ENTRIES, e);
-        if calls_unknown(image, derived, at, end) {
-            return true;
-        }
-    }
-    false
+    any_entry(image, |at, end| calls_unknown(image, derived, at, end))
 }
 
 // Refusal 22 of finishing with entry points: a function that one of them calls is stuck.

@@ -11,15 +11,16 @@ ghost use Rattle.derive_state.specs.Held.{ImportsOrUndoes, Valid};
 ghost use Rattle.derive_rollback.specs.Answered.{MappedToEnsures};
 
 use base_handles::TypeHandle;
-use derive_snapshot::{Snapshot, restore, save};
-use derive_state::{DerivedMut, Full, Maps, ShaderSource, Sizes};
+use base_views::{Image, TYPES};
+use derive_snapshot::{Snapshot, restore};
+use derive_state::{DerivedMut, Full, Maps, ShaderSource, Sizes, number_of};
 
 // The derived number that number h of table t is mapped to, and 0 where it is to none: no Option, since who asks has just imported it.
 pub fn mapped_to(maps: &Maps, t: usize, h: u32) -> u32
     requires { (t < 6) × (h < 512) }
     ensures { MappedToEnsures maps.now t h result }
 {
-    maps[t][h as usize].saturating_sub(1)
+    number_of(maps[t][h as usize])
 }
 
 // Imports a record of a table.
@@ -35,11 +36,7 @@ pub fn import(
     requires valid_arrays { Valid derived.old ends }
     ensures { ImportsOrUndoes source.entry.image.words.now (import_t source.entry.offset (src_of source.entry.image.words.now source.entry.image.n) (tab_of table) number) derived.old ends result derived.new }
 {
-    let mut saved = Snapshot {
-        starts: [[0; 512]; 8],
-        maps: [[0; 512]; 6],
-    };
-    save(source.image.words, &derived.view(ends), &mut saved);
+    let saved = Snapshot::of(source.image.words, &derived.view(ends));
     let got = derive_imports::import(source, derived, ends, table, number);
     if got.is_err() {
         restore(derived.starts, derived.maps, &saved);
@@ -47,8 +44,7 @@ pub fn import(
     got
 }
 
-// Imports type h under the name with the given number. A twin of `import`: one function for both would take all these arrays and a closure that takes five of
-// them again, and be longer than the two.
+// Imports type h under the name with the given number: as `import` from a view of the source in which it has that name.
 pub fn rename_type(
     source: ShaderSource,
     derived: &mut DerivedMut,
@@ -61,14 +57,13 @@ pub fn rename_type(
     requires valid_arrays { Valid derived.old ends }
     ensures { ImportsOrUndoes source.entry.image.words.now (import_t source.entry.offset (renamed (src_of source.entry.image.words.now source.entry.image.n) h.0 name) types h.0) derived.old ends result derived.new }
 {
-    let mut saved = Snapshot {
-        starts: [[0; 512]; 8],
-        maps: [[0; 512]; 6],
+    let at = source.image.record_at(TYPES, h.0 as usize);
+    let mut view = *source.image.words;
+    view[at] = name + 1;
+    let image = Image {
+        words: &view,
+        tags: source.image.tags,
+        n: source.image.n,
     };
-    save(source.image.words, &derived.view(ends), &mut saved);
-    let got = derive_imports::rename_type(source, derived, ends, h, name);
-    if got.is_err() {
-        restore(derived.starts, derived.maps, &saved);
-    }
-    got
+    import(ShaderSource { image, ..source }, derived, ends, TYPES, h.0)
 }

@@ -4,7 +4,7 @@ use mathlib.Core.List.{List, [], ◌∷◌}
 use Prim.Native.Nat.{ℕ, suc, ◌+◌, ◌≤◌, ◌<◌}
 use native.Mathlib.Numerals.{add-one}
 use native.Mathlib.Omega.{arith}
-use lib.ListN.{length, get_or, take, drop, drop_of_length-le}
+use lib.ListN.{length, get_or, take, drop, replicate, drop_of_length-le}
 use lib.Seq.{drop-cons, length-take-le, get_or-take}
 use Rattle.model.specs.Table.{NAME}
 use Rattle.model.specs.Between.{between}
@@ -12,8 +12,8 @@ use Rattle.model.specs.Finish.{names_in, firsts}
 use Rattle.theory_image.specs.Betweens.{between_none, between_next}
 use Rattle.derive_sections.specs.Flat.{firsts_r, firsts_t}
 use Rattle.derive_state.specs.Held.{rec_at, recs_at}
-use Rattle.derive_sections.specs.Rows.{tabs_of, Rec, Row, Rows, AppearingEnsures}
-use Rattle.derive_sections.proofs.Names.{noted_self, firsts-cell}
+use Rattle.derive_sections.specs.Rows.{tabs_of, Rec, Row, Starts, Rows, AppearingEnsures}
+use Rattle.derive_sections.proofs.Names.{noted_none, noted_self, firsts-cell}
 
 -- ---- a record
 pub record Noting (names : ℕ) (log logtags order₀ : List ℕ) (n s end : ℕ) (order places : List ℕ) (i k : ℕ) : Type 0 where
@@ -49,38 +49,47 @@ module _ (names : ℕ) (log logtags order₀ places₀ : List ℕ) (n s : ℕ) (
     noting_done h = let e : take k order ≡ firsts (names_in (rec_at log logtags s)) (take n order₀) = rw (between_none logtags log i end h) at inv.rest in rw (← e) inv.noted
 
 -- ---- records from i on
-pub recs_next : (log logtags ss : List ℕ) (n i : ℕ) → n ≤ length ss → i < n → recs_at log logtags (drop i (take n ss)) ≡ rec_at log logtags (get_or ss i 0) ∷ recs_at log logtags (drop (i + 1) (take n ss))
+pub recs_next : (log logtags ss : List ℕ) (i : ℕ) → i < length ss → recs_at log logtags (drop i ss) ≡ rec_at log logtags (get_or ss i 0) ∷ recs_at log logtags (drop (i + 1) ss)
 unfolding recs_at
-recs_next log logtags ss n i l h = let k = length-take-le n ss l in let c : drop i (take n ss) ≡ get_or ss i 0 ∷ drop (i + 1) (take n ss) = drop-cons (take n ss) i 0 (omega arith) ∙ rw (get_or-take n ss i 0 h, add-one) in rw c
+recs_next log logtags ss i h = let c : drop i ss ≡ get_or ss i 0 ∷ drop (i + 1) ss = drop-cons ss i 0 h ∙ rw add-one in rw c
 
-pub recs_none : (log logtags ss : List ℕ) (n i : ℕ) → n ≤ length ss → n ≤ i → recs_at log logtags (drop i (take n ss)) ≡ []
+pub recs_none : (log logtags ss : List ℕ) (i : ℕ) → length ss ≤ i → recs_at log logtags (drop i ss) ≡ []
 unfolding recs_at
-recs_none log logtags ss n i l h = let k = length-take-le n ss l in rw (drop_of_length-le (take n ss) {i = i} (omega arith))
+recs_none log logtags ss i h = rw (drop_of_length-le ss {i = i} h)
 
 -- ---- a table
-pub record NotingR (names : ℕ) (log logtags ss order₀ : List ℕ) (count n : ℕ) (order places : List ℕ) (i k : ℕ) : Type 0 where
-  pub within : i ≤ count
+pub record NotingR (names : ℕ) (log logtags ss order₀ : List ℕ) (n : ℕ) (order places : List ℕ) (i k : ℕ) : Type 0 where
+  pub within : i ≤ length ss
   pub noted : AppearingEnsures names (take k order) order places k
-  pub rest : firsts_r (recs_at log logtags (drop i (take count ss))) (take k order) ≡ firsts_r (recs_at log logtags (take count ss)) (take n order₀)
+  pub rest : firsts_r (recs_at log logtags (drop i ss)) (take k order) ≡ firsts_r (recs_at log logtags ss) (take n order₀)
 
-module _ (names : ℕ) (log logtags ss order₀ places₀ : List ℕ) (count n : ℕ) (row : Row names log logtags ss count) where
-  pub noting_r_begin : AppearingEnsures names (take n order₀) order₀ places₀ n → NotingR names log logtags ss order₀ count n order₀ places₀ 0 n
+module _ (names : ℕ) (log logtags ss order₀ places₀ : List ℕ) (n : ℕ) (starts : Starts names log logtags ss) where
+  pub noting_r_begin : AppearingEnsures names (take n order₀) order₀ places₀ n → NotingR names log logtags ss order₀ n order₀ places₀ 0 n
   noting_r_begin v = record { within = omega arith; noted = v; rest = refl }
 
-  module _ (order places : List ℕ) (i k : ℕ) (inv : NotingR names log logtags ss order₀ count n order places i k) where
-    pub noting_r_rec : i < count → (s : ℕ) → s ≡ get_or ss i 0 → Rec names log logtags s
-    noting_r_rec h s e = rw e (row.recs i h)
+  module _ (order places : List ℕ) (i k : ℕ) (inv : NotingR names log logtags ss order₀ n order places i k) where
+    pub noting_r_rec : i < length ss → (s : ℕ) → s ≡ get_or ss i 0 → Rec names log logtags s
+    noting_r_rec h s e = rw e (starts.recs i h)
 
-    pub noting_r_next : i < count → (s : ℕ) → s ≡ get_or ss i 0 → (order₁ places₁ : List ℕ) (k₁ : ℕ) → AppearingEnsures names (firsts (names_in (rec_at log logtags s)) (take k order)) order₁ places₁ k₁
-        → NotingR names log logtags ss order₀ count n order₁ places₁ (i + 1) k₁
+    pub noting_r_next : i < length ss → (s : ℕ) → s ≡ get_or ss i 0 → (order₁ places₁ : List ℕ) (k₁ : ℕ) → AppearingEnsures names (firsts (names_in (rec_at log logtags s)) (take k order)) order₁ places₁ k₁
+        → NotingR names log logtags ss order₀ n order₁ places₁ (i + 1) k₁
     unfolding firsts_r
     noting_r_next h s e order₁ places₁ k₁ v =
-        let r = recs_next log logtags ss count i (omega (arith, row.row_long, row.few)) h in
+        let r = recs_next log logtags ss i h in
         record { within = omega arith; noted = noted_self v; rest = rw (v.is, e) (rw r at inv.rest) }
 
-    pub noting_r_done : count ≤ i → AppearingEnsures names (firsts_r (recs_at log logtags (take count ss)) (take n order₀)) order places k
+    pub noting_r_done : length ss ≤ i → AppearingEnsures names (firsts_r (recs_at log logtags ss) (take n order₀)) order places k
     unfolding firsts_r
-    noting_r_done h = let e : take k order ≡ firsts_r (recs_at log logtags (take count ss)) (take n order₀) = rw (recs_none log logtags ss count i (omega (arith, row.row_long, row.few)) h) at inv.rest in rw (← e) inv.noted
+    noting_r_done h = let e : take k order ≡ firsts_r (recs_at log logtags ss) (take n order₀) = rw (recs_none log logtags ss i h) at inv.rest in rw (← e) inv.noted
+
+-- the starts of a row
+pub row-starts : {names : ℕ} {log logtags ss : List ℕ} {n : ℕ} → Row names log logtags ss n → Starts names log logtags (take n ss)
+row-starts {ss} {n} r =
+    let l : length (take n ss) ≡ n = length-take-le n ss (omega (arith, r.row_long, r.few)) in
+    record { few = omega (arith, r.few); recs = λ k h. rw (get_or-take n ss k 0 (omega arith)) (r.recs k (omega arith)) }
+
+pub rows_few : {names : ℕ} {log logtags : List ℕ} {starts : List (List ℕ)} {counts : List ℕ} → Rows names log logtags starts counts → (t : ℕ) → t < 8 → get_or counts t 0 ≤ 512
+rows_few rows t h = (rows.rows t h).few
 
 -- ---- tables from t on
 pub tabs_next : (log logtags : List ℕ) (starts : List (List ℕ)) (counts : List ℕ) (t : ℕ) → t < length starts → t < length counts
@@ -98,19 +107,19 @@ pub record NotingT (names : ℕ) (log logtags : List ℕ) (starts : List (List �
   pub rest : firsts_t (tabs_of log logtags (drop t starts) (drop t counts)) (take k order) ≡ firsts_t (tabs_of log logtags (drop 1 starts) (drop 1 counts)) []
 
 module _ (names : ℕ) (log logtags : List ℕ) (starts : List (List ℕ)) (counts : List ℕ) (rows : Rows names log logtags starts counts) where
-  pub noting_t_begin : (order₀ places₀ : List ℕ) → AppearingEnsures names [] order₀ places₀ 0 → NotingT names log logtags starts counts order₀ places₀ 1 0
-  noting_t_begin order₀ places₀ v = record { within = omega arith; noted = v; rest = refl }
+  pub noting_t_begin : names ≤ 512 → NotingT names log logtags starts counts (replicate 512 0) (replicate 512 0) 1 0
+  noting_t_begin h = record { within = omega arith; noted = noted_none names h; rest = refl }
 
   module _ (order places : List ℕ) (t k : ℕ) (inv : NotingT names log logtags starts counts order places t k) where
-    pub noting_t_row : t < 8 → Row names log logtags (get_or starts t []) (get_or counts t 0)
-    noting_t_row h = rows.rows t h
+    pub noting_t_starts : t < 8 → (ss : List ℕ) → ss ≡ take (get_or counts t 0) (get_or starts t []) → Starts names log logtags ss
+    noting_t_starts h ss e = rw e (row-starts (rows.rows t h))
 
-    pub noting_t_next : t < 8 → (order₁ places₁ : List ℕ) (k₁ : ℕ) → AppearingEnsures names (firsts_r (recs_at log logtags (take (get_or counts t 0) (get_or starts t []))) (take k order)) order₁ places₁ k₁
+    pub noting_t_next : t < 8 → (ss : List ℕ) → ss ≡ take (get_or counts t 0) (get_or starts t []) → (order₁ places₁ : List ℕ) (k₁ : ℕ) → AppearingEnsures names (firsts_r (recs_at log logtags ss) (take k order)) order₁ places₁ k₁
         → NotingT names log logtags starts counts order₁ places₁ (t + 1) k₁
     unfolding firsts_t
-    noting_t_next h order₁ places₁ k₁ v =
+    noting_t_next h ss e order₁ places₁ k₁ v =
         let r = tabs_next log logtags starts counts t (omega (arith, rows.eight)) (omega (arith, rows.eight')) in
-        record { within = omega arith; noted = noted_self v; rest = rw v.is (rw r at inv.rest) }
+        record { within = omega arith; noted = noted_self v; rest = rw (v.is, e) (rw r at inv.rest) }
 
     pub noting_t_done : 8 ≤ t → AppearingEnsures names (firsts_t (tabs_of log logtags (drop 1 starts) (drop 1 counts)) []) order places k
     unfolding firsts_t

@@ -1,18 +1,20 @@
 -- Tables one after the other, their sizes and the header.
 use mathlib.Core.Path.{◌≡◌, refl, sym, ap, ap₂, ◌∙◌}
 use mathlib.Core.List.{List, [], ◌∷◌, map}
-use Prim.Native.Nat.{ℕ, suc, ◌+◌, ◌*◌, ◌≤◌, ◌<◌}
+use Prim.Native.Nat.{ℕ, zero, suc, ◌+◌, ◌*◌, ◌≤◌, ◌<◌}
 use native.Mathlib.Omega.{arith}
 use lib.ListN.{length, get_or, set, take, drop, length-set, length-map, length-append}
+use Rattle.std.specs.List.{sum_by, range_with_len}
+use Rattle.std.proofs.lemmas.List.Sums.{sum_by-cons}
 use lib.Seq.{sets, length-sets, length-take-le}
 use Rattle.theory_lists.specs.Stores.{sets-append}
 use Rattle.model.specs.Outcome.{Cell, Cells}
 use Rattle.derive_state.proofs.State.{recs_long}
 use Rattle.derive_sections.specs.Flat.{lengths, table_size, offsets, joined, table_words, sizes, heads, tables}
 use Rattle.derive_state.specs.Held.{recs_at}
-use Rattle.derive_sections.specs.Rows.{tabs_of, Row, Rows, named}
-use Rattle.derive_sections.proofs.Notes.{tabs_next, tabs_none}
-use Rattle.derive_sections.proofs.Writes.{length-offsets}
+use Rattle.derive_sections.specs.Rows.{tabs_of, Starts, Rows, named}
+use Rattle.derive_sections.proofs.Notes.{row-starts, tabs_next, tabs_none}
+use Rattle.derive_sections.proofs.Writes.{length-offsets, sized}
 
 -- ---- lengths
 length-joined : (f : Cell → ℕ) (rs : List Cells) → length (joined f rs) ≡ lengths rs
@@ -30,11 +32,6 @@ module _ (log logtags : List ℕ) (starts : List (List ℕ)) (counts : List ℕ)
     pub room : p + sizes (tabs_of log logtags (drop t starts) (drop t counts)) ≡ at + sizes (tabs_of log logtags starts counts)
     pub long : length out ≡ 16384
     pub same : sets out p (tables (named ps) (tabs_of log logtags (drop t starts) (drop t counts))) ≡ sets out₀ at (tables (named ps) (tabs_of log logtags starts counts))
-
-  pub record Summing (t p : ℕ) : Type 0 where
-    pub within : t ≤ 8
-    pub small : p ≤ 8388608 * t
-    pub same : p + sizes (tabs_of log logtags (drop t starts) (drop t counts)) ≡ sizes (tabs_of log logtags starts counts)
 
   pub record Heading (pairs : ℕ) (out₀ out : List ℕ) (t p : ℕ) : Type 0 where
     pub within : t ≤ 8
@@ -59,11 +56,8 @@ module _ (log logtags : List ℕ) (starts : List (List ℕ)) (counts : List ℕ)
   from_none : (t : ℕ) → 8 ≤ t → From t ≡ []
   from_none t h = tabs_none log logtags starts counts t (omega (arith, rows.eight))
 
-  pub rows_row : (t : ℕ) → t < 8 → Row 512 log logtags (get_or starts t []) (get_or counts t 0)
-  rows_row t h = rows.rows t h
-
-  pub rows_few : (t : ℕ) → t < 8 → get_or counts t 0 ≤ 512
-  rows_few t h = (rows.rows t h).few
+  pub rows_starts : (t : ℕ) → t < 8 → (ss : List ℕ) → ss ≡ take (get_or counts t 0) (get_or starts t []) → Starts 512 log logtags ss
+  rows_starts t h ss e = rw e (row-starts (rows.rows t h))
 
   tab_count : (t : ℕ) → t < 8 → length (Tab t) ≡ get_or counts t 0
   tab_count t h = let r = rows.rows t h in recs_long log logtags (take (get_or counts t 0) (get_or starts t [])) ∙ length-take-le (get_or counts t 0) (get_or starts t []) (omega (arith, r.row_long, r.few))
@@ -74,16 +68,17 @@ module _ (log logtags : List ℕ) (starts : List (List ℕ)) (counts : List ℕ)
     tabling_begin l = record { within = omega arith; room = refl; long = l; same = refl }
 
     module _ (out : List ℕ) (t p : ℕ) (inv : Tabling log logtags starts counts ps out₀ at out t p) where
-      pub tabling_room : t < 8 → p + table_size (Tab t) ≤ 16384
+      pub tabling_room : t < 8 → (ss : List ℕ) → ss ≡ take (get_or counts t 0) (get_or starts t []) → p + table_size (recs_at log logtags ss) ≤ 16384
       unfolding sizes
-      tabling_room h =
+      tabling_room h ss e =
           let r = from_next t h in
           let z : p + (table_size (Tab t) + sizes (From (t + 1))) ≡ at + sizes Whole = rw r at inv.room in
-          omega arith
+          rw e (omega arith)
 
-      pub tabling_next : t < 8 → (out₁ : List ℕ) (p₁ : ℕ) → (out₁ ≡ sets out p (table_words (named ps) (Tab t))) × (p₁ ≡ p + table_size (Tab t)) → Tabling log logtags starts counts ps out₀ at out₁ (t + 1) p₁
+      pub tabling_next : t < 8 → (ss : List ℕ) → ss ≡ take (get_or counts t 0) (get_or starts t []) → (out₁ : List ℕ) (p₁ : ℕ) → (out₁ ≡ sets out p (table_words (named ps) (recs_at log logtags ss))) × (p₁ ≡ p + table_size (recs_at log logtags ss)) → Tabling log logtags starts counts ps out₀ at out₁ (t + 1) p₁
       unfolding sizes tables
-      tabling_next h out₁ p₁ w =
+      tabling_next h ss e out₁ p₁ v =
+          let w : (out₁ ≡ sets out p (table_words (named ps) (Tab t))) × (p₁ ≡ p + table_size (Tab t)) = rw e at v in
           let r = from_next t h in
           let z : p + (table_size (Tab t) + sizes (From (t + 1))) ≡ at + sizes Whole = rw r at inv.room in
           let m = length-table (named ps) (Tab t) in
@@ -99,22 +94,21 @@ module _ (log logtags : List ℕ) (starts : List (List ℕ)) (counts : List ℕ)
       tabling_done h = let n = from_none t h in (rw n at inv.same, (let z : p + 0 ≡ at + sizes Whole = rw n at inv.room in omega arith))
 
   -- ---- the sizes
-  pub summing_begin : Summing log logtags starts counts 0 0
-  summing_begin = record { within = omega arith; small = omega arith; same = omega arith }
+  sizes-from : (n t : ℕ) → t + n ≡ 8 → sizes (From t) ≡ sum_by (λ u. table_size (Tab u)) (range_with_len t n)
+  unfolding sizes
+  sizes-from zero t e = rw (from_none t (omega arith)) refl
+  sizes-from (suc n) t e = rw (from_next t (omega arith), sum_by-cons (λ u. table_size (Tab u)) t (range_with_len (t + 1) n)) (ap (table_size (Tab t) +◌) (sizes-from n (t + 1) (omega arith)))
 
-  module _ (t p : ℕ) (inv : Summing log logtags starts counts t p) where
-    pub summing_next : t < 8 → (n : ℕ) → (n ≡ table_size (Tab t)) × (n ≤ 512 * 16384) → Summing log logtags starts counts (t + 1) (p + n)
-    unfolding sizes
-    summing_next h n w =
-        let r = from_next t h in
-        let z : p + (table_size (Tab t) + sizes (From (t + 1))) ≡ sizes Whole = rw r at inv.same in
-        let y = w.0 in
-        let x = w.1 in
-        record { within = omega arith; small = let q = inv.small in omega arith; same = omega arith }
+  table_small : (t : ℕ) → t < 8 → table_size (Tab t) ≤ 512 * 16384
+  table_small t h = let s = sized log logtags (take (get_or counts t 0) (get_or starts t [])) (row-starts (rows.rows t h)) _ refl in omega (arith, s.0, s.1)
 
-    pub summing_done : 8 ≤ t → (p ≡ sizes Whole) × (p ≤ 4096 * 16384)
-    unfolding sizes
-    summing_done h = let n = from_none t h in ((let z : p + 0 ≡ sizes Whole = rw n at inv.same in omega arith), (let q = inv.small in let v = inv.within in omega arith))
+  sizes_small : (n t : ℕ) → t + n ≡ 8 → sizes (From t) ≤ 8388608 * n
+  unfolding sizes
+  sizes_small zero t e = rw (from_none t (omega arith)) (omega arith)
+  sizes_small (suc n) t e = rw (from_next t (omega arith)) (omega (arith, table_small t (omega arith), sizes_small n (t + 1) (omega arith)))
+
+  pub table_sum : (r : ℕ) → r ≡ sum_by (λ t. table_size (Tab t)) (range_with_len 0 8) → (r ≡ sizes Whole) × (r ≤ 4096 * 16384)
+  table_sum r e = let z = sizes-from 8 0 refl in (e ∙ sym z, omega (arith, e, z, sizes_small 8 0 refl))
 
   -- ---- the header
   module _ (pairs : ℕ) (out₀ : List ℕ) where

@@ -13,7 +13,6 @@ use Rattle.model.specs.Image.{ScratchLengths}
 use Rattle.theory_sessions.specs.Operating.{run}
 use Rattle.derive_limits.specs.Reached.{Reached}
 use Rattle.derive_limits.proofs.Reached.{reached}
-use Rattle.derive_state.specs.Refers.{target_bytes}
 use Rattle.derive_state.specs.Marks.{MARKS}
 use Rattle.derive_state.specs.Held.{row}
 use Rattle.derive_state.specs.Sizes.{Sizes}
@@ -28,8 +27,7 @@ abbrev pub unmapped : List (List ℕ)
 unmapped = replicate 6 (replicate 512 0)
 
 -- arrays of a session, by their lengths, and no special types
-pub record Empty (words tags targets log logtags : List ℕ) (starts : List (List ℕ)) (buckets special : List ℕ) : Type 0 where
-  pub targets_are : targets ≡ target_bytes
+pub record Empty (words tags log logtags : List ℕ) (starts : List (List ℕ)) (buckets special : List ℕ) : Type 0 where
   pub words_long : length words ≡ 16384
   pub tape_long : length tags ≡ 16384
   pub log_long : length log ≡ 16384
@@ -40,20 +38,19 @@ pub record Empty (words tags targets log logtags : List ℕ) (starts : List (Lis
   pub special_long : length special ≡ 1027
   pub rays-none : (i : ℕ) → i < 3 → get_or special i 0 ≡ 0
 
-module _ {words tags targets log logtags : List ℕ} {starts : List (List ℕ)} {buckets special : List ℕ} (h : Empty words tags targets log logtags starts buckets special) (n o : ℕ) where
+module _ {words tags log logtags : List ℕ} {starts : List (List ℕ)} {buckets special : List ℕ} (h : Empty words tags log logtags starts buckets special) (n o : ℕ) where
   pub starts-new : session_of false n o words log logtags starts unmapped special Nothing ≡ new
   unfolding session_of new emptied fresh
   starts-new =
       ap (λ (s : Derived). record { source = none; state = emptied (six (λ t. [])) s })
       (st_nothing log logtags starts buckets h.log_long h.tags_long h.marks_long h.starts_eight h.rows words special (h.rays-none 0 (omega arith)) (h.rays-none 1 (omega arith)) (h.rays-none 2 (omega arith)))
 
-  pub valid_new : ValidSession false n o words tags targets log logtags starts unmapped buckets special Nothing
+  pub valid_new : ValidSession false n o words tags log logtags starts unmapped buckets special Nothing
   unfolding run
   valid_new = record {
     reached = subst Reached (sym starts-new) (reached each_none);
     kept = kept-nothing log logtags starts buckets h.log_long h.tags_long h.marks_long h.starts_eight h.rows;
     specials = record { special_long = h.special_long; rays_in = λ i l. let z = h.rays-none i l in omega arith; pairs_in_lem = λ i l. absurd (omega arith) };
-    targets_are = h.targets_are;
     words_long = h.words_long;
     tape_long = h.tape_long;
     taped = λ q. absurd (false≢true q);
@@ -64,9 +61,8 @@ module _ {words tags targets log logtags : List ℕ} {starts : List (List ℕ)} 
   }
 
 -- such arrays: zeros
-pub zeros : Empty (replicate 16384 0) (replicate 16384 0) target_bytes (replicate 16384 0) (replicate 16384 0) (replicate 8 (replicate 512 0)) (replicate 16384 0) (replicate 1027 0)
+pub zeros : Empty (replicate 16384 0) (replicate 16384 0) (replicate 16384 0) (replicate 16384 0) (replicate 8 (replicate 512 0)) (replicate 16384 0) (replicate 1027 0)
 zeros = record {
-  targets_are = refl;
   words_long = length-replicate {A = ℕ} 16384 0;
   tape_long = length-replicate {A = ℕ} 16384 0;
   log_long = length-replicate {A = ℕ} 16384 0;

@@ -7,7 +7,6 @@ use Rattle.model.specs.Tables.{six}
 use Rattle.model.specs.Imports.{emptied}
 use Rattle.model.specs.Session.{Session}
 use Rattle.derive_limits.specs.Reached.{Reached}
-use Rattle.derive_state.specs.Refers.{target_bytes}
 use Rattle.derive_state.specs.Source.{mod_of}
 use Rattle.derive_state.specs.Held.{st_of, ValidArrays, Specials}
 use Rattle.derive_state.specs.Sizes.{Sizes}
@@ -18,11 +17,10 @@ session_of true n o words log logtags starts maps special e = record { source = 
 session_of false n o words log logtags starts maps special e = record { source = none; state = emptied (six (λ t. [])) (st_of words log logtags starts maps special e) }
 
 -- between operations
-pub record ValidSession (set : Bool) (n o : ℕ) (words tags targets log logtags : List ℕ) (starts maps : List (List ℕ)) (buckets special : List ℕ) (e : Sizes) : Type 0 where
+pub record ValidSession (set : Bool) (n o : ℕ) (words tags log logtags : List ℕ) (starts maps : List (List ℕ)) (buckets special : List ℕ) (e : Sizes) : Type 0 where
   pub reached : Reached (session_of set n o words log logtags starts maps special e)
   pub kept : ValidArrays log logtags starts maps buckets e
   pub specials : Specials special e
-  pub targets_are : targets ≡ target_bytes
   pub words_long : length words ≡ 16384
   pub tape_long : length tags ≡ 16384
   -- a source that is set passed intake

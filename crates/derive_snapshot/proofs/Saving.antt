@@ -13,7 +13,7 @@ use Rattle.derive_state.specs.Sizes.{Sizes}
 use Rattle.derive_state.proofs.State.{same_or}
 use Rattle.derive_state.proofs.Fresh.{rows_at}
 use Rattle.derive_imports.proofs.Sources.{count_few}
-use Rattle.derive_snapshot.specs.Snapshot.{Prefix, Prefixes}
+use Rattle.derive_snapshot.specs.Snapshot.{Prefix, Prefixes, InUse}
 
 -- ---- the rows
 module _ (n t : ℕ) (c : ℕ → ℕ) (from to : List (List ℕ)) (P : Prefixes n t c from to) where
@@ -42,16 +42,17 @@ zeros_low zero i v = omega arith
 zeros_low (suc k) zero v = omega arith
 zeros_low (suc k) (suc i) v = zeros_low k i v
 
-rows-begin : (n : ℕ) (c : ℕ → ℕ) (from : List (List ℕ)) → ((u : ℕ) → u < n → c u ≤ 512) → ((u : ℕ) → u < n → length (row from u) ≡ 512) → Prefixes n 0 c from (replicate n (replicate 512 0))
-rows-begin n c from few rows = record {
-  few = few;
-  rows = rows;
+pub rows_begin : (n : ℕ) (c : ℕ → ℕ) (from : List (List ℕ)) → InUse n c from → Prefixes n 0 c from (replicate n (replicate 512 0))
+rows_begin n c from U = record {
+  few = U.few;
+  rows = U.long;
   many = length-replicate {A = List ℕ} n (replicate 512 0);
   rows' = λ u l. ap length (rows_at (replicate 512 0) n u l) ∙ length-replicate {A = ℕ} 512 0;
   same = λ u l. absurd (omega arith);
   low = λ u k l. rw (rows_at (replicate 512 0) n u l) (zeros_low 512 k _);
 }
 
-pub save_begin : (words tags₀ : List ℕ) (n : ℕ) → Source words tags₀ n → (log logtags : List ℕ) (starts maps : List (List ℕ)) (buckets : List ℕ) (e : Sizes) → ValidArrays log logtags starts maps buckets e
-    → Prefixes 8 0 (λ t. get_or e.counts t 0) starts (replicate 8 (replicate 512 0)) × Prefixes 6 0 (λ t. count_at t words) maps (replicate 6 (replicate 512 0))
-save_begin words tags₀ n src log logtags starts maps buckets e K = (rows-begin 8 (λ t. get_or e.counts t 0) starts K.few K.rows, rows-begin 6 (λ t. count_at t words) maps (count_few words tags₀ n src) K.rows')
+-- what is in use of a good state
+pub in_use : (words tags₀ : List ℕ) (n : ℕ) → Source words tags₀ n → (log logtags : List ℕ) (starts maps : List (List ℕ)) (buckets : List ℕ) (e : Sizes) → ValidArrays log logtags starts maps buckets e
+    → InUse 8 (λ t. get_or e.counts t 0) starts × InUse 6 (λ t. count_at t words) maps
+in_use words tags₀ n src log logtags starts maps buckets e K = (record { few = K.few; long = K.rows }, record { few = count_few words tags₀ n src; long = K.rows' })

@@ -19,6 +19,11 @@ pub record Prefixes (n t : ℕ) (c : ℕ → ℕ) (from to : List (List ℕ)) : 
   pub same : (u : ℕ) → u < t → take (c u) (row to u) ≡ take (c u) (row from u)
   pub low : (u k : ℕ) → u < n → cell to u k ≤ cell from u k
 
+-- n rows of 512 words, of which the first c u are in use
+pub record InUse (n : ℕ) (c : ℕ → ℕ) (rows : List (List ℕ)) : Type 0 where
+  pub few : (u : ℕ) → u < n → c u ≤ 512
+  pub long : (u : ℕ) → u < n → length (row rows u) ≡ 512
+
 -- s and m have the starts of the records that are there, and the maps of the numbers that the source has
 pub record SaveEnsures (words : List ℕ) (starts maps : List (List ℕ)) (e : Sizes) (s m : List (List ℕ)) : Type 0 where
   pub of_starts : Prefixes 8 8 (λ t. get_or e.counts t 0) starts s

@@ -5,7 +5,7 @@
 ghost use Rattle.std.specs.Prelude.{◌≡◌, true, ◌≤◌, ◌<◌, length, get_or};
 ghost use Rattle.model.specs.Module.{count_at};
 ghost use Rattle.derive_state.specs.Sizes.{going};
-ghost use Rattle.derive_snapshot.specs.Snapshot.{Prefix, Prefixes, SaveEnsures, RestoreEnsures};
+ghost use Rattle.derive_snapshot.specs.Snapshot.{Prefix, Prefixes, InUse, SaveEnsures, RestoreEnsures};
 
 use base_views::count;
 use base_words::Words;
@@ -46,14 +46,21 @@ pub struct Snapshot {
     pub maps: Maps,
 }
 
-// Saves the part of starts and maps that is in use.
-pub fn save(words: &Words, derived: &Derived, saved: &mut Snapshot)
-    requires prefixes { Prefixes 8 0 (λ t. get_or derived.now.sizes.counts t 0) derived.now.starts.now saved.old.starts }
-    requires prefixes_2 { Prefixes 6 0 (λ t. count_at t words.now) derived.now.maps.now saved.old.maps }
-    ensures { SaveEnsures words.now derived.now.starts.now derived.now.maps.now (going derived.now.sizes) saved.new.starts saved.new.maps }
-{
-    save_starts(derived.starts, derived.sizes, &mut saved.starts);
-    save_maps(words, derived.maps, &mut saved.maps);
+impl Snapshot {
+    // Saves the part of starts and maps that is in use; the rest of the snapshot is 0.
+    pub fn of(words: &Words, derived: &Derived) -> Snapshot
+        requires starts_in_use { InUse 8 (λ t. get_or derived.now.sizes.counts t 0) derived.now.starts.now }
+        requires maps_in_use { InUse 6 (λ t. count_at t words.now) derived.now.maps.now }
+        ensures { SaveEnsures words.now derived.now.starts.now derived.now.maps.now (going derived.now.sizes) result.starts result.maps }
+    {
+        let mut saved = Snapshot {
+            starts: [[0; 512]; 8],
+            maps: [[0; 512]; 6],
+        };
+        save_starts(derived.starts, derived.sizes, &mut saved.starts);
+        save_maps(words, derived.maps, &mut saved.maps);
+        saved
+    }
 }
 
 // Restores starts and maps as they were saved, where something did not fit. It takes the two arrays that it writes, not the module: what stays needs no clause so.

@@ -93,6 +93,7 @@ pub fn set_source(
     requires specials { Specials special.old (going ends) }
     ensures { SetsSource source.entry.image.words.now source.entry.image.n source.entry.offset derived.old special.old ends result derived.new special.new }
 {
+    // whole, and no `Snapshot::of`: the maps are those of the source before, and the words of this one do not say how much of them is in use
     let saved = Snapshot {
         starts: *derived.starts,
         maps: *derived.maps,

@@ -1,10 +1,9 @@
 // One special type of a source: derived for its place or key, or, where that is derived already, mapped to the derived type.
 #![tactic(auto)]
 
-ghost use Rattle.std.specs.Prelude.{MatchOption, ◌≡◌, ◌+◌, ◌≤◌, ◌<◌, length};
+ghost use Rattle.std.specs.Prelude.{◌≡◌, ◌+◌, ◌≤◌, ◌<◌};
 ghost use Rattle.model.specs.Module.{count_at};
-ghost use Rattle.model.specs.Special.{ray as rayOf, keyed};
-ghost use Rattle.derive_state.specs.Flats.{pairs_at};
+ghost use Rattle.model.specs.Special.{ray as rayOf};
 ghost use Rattle.derive_state.specs.Source.{src_of, Source};
 ghost use Rattle.derive_state.specs.Held.{Specials, Valid};
 ghost use Rattle.derive_special.specs.Derives.{pair_of, Derives};
@@ -13,31 +12,7 @@ ghost use Rattle.derive_state.specs.Sizes.{going};
 use base_handles::TypeHandle;
 use base_views::TYPES;
 use derive_imports::import;
-use derive_state::{DerivedMut, Full, ShaderSource, Sizes, Special, words_left};
-
-// The type derived for a key among n pairs.
-fn derived_type(special: &Special, n: usize, key: u32) -> Option<u32>
-    requires { (n ≤ 512) × (length special.now ≡ 1027) }
-    ensures { MatchOption result (0 ≡ keyed (pairs_at special.now 3 n) key) (λ h. h + 1 ≡ keyed (pairs_at special.now 3 n) key) }
-{
-    for j in 0..n {
-        if special[3 + 2 * j] == key {
-            return Some(special[4 + 2 * j]);
-        }
-    }
-    None
-}
-
-// The sizes with one pair more.
-fn paired(e: Sizes) -> Sizes
-    requires { e.pairs < 512 }
-    ensures { result ≡ record { loglen = e.loglen; counts = e.counts; pairs = e.pairs + 1; exprtop = e.exprtop; bodytop = e.bodytop; made = e.made } }
-{
-    Sizes {
-        pairs: e.pairs + 1,
-        ..e
-    }
-}
+use derive_state::{DerivedMut, Full, ShaderSource, Sizes, Special};
 
 // Derives the source's optional type w, for place k of the three.
 pub fn ray(
@@ -59,13 +34,13 @@ pub fn ray(
     }
     let h = w - 1;
     let i = h as usize;
-    let v = special[k];
+    let v = special.ray(k);
     if v != 0 {
         derived.maps[TYPES][i] = v;
         return Ok(ends);
     }
     let got = import(source, derived, ends, TYPES, h)?;
-    special[k] = derived.maps[TYPES][i];
+    special.set_ray(k, derived.maps[TYPES][i]);
     Ok(got)
 }
 
@@ -85,20 +60,15 @@ pub fn pair(
     ensures { Derives source.entry.image.words.now (pair_of key h.0 source.entry.offset (src_of source.entry.image.words.now source.entry.image.n)) derived.old special.old ends result derived.new special.new }
 {
     let i = h.0 as usize;
-    let found = derived_type(special, ends.pairs as usize, key);
-    if let Some(d) = found {
+    if let Some(d) = special.type_for(ends.pairs as usize, key) {
         derived.maps[TYPES][i] = d + 1;
         return Ok(ends);
     }
     let got = import(source, derived, ends, TYPES, h.0)?;
     let p = got.pairs as usize;
-    if p == 512 {
+    if p == 512 || got.words_left() < 2 {
         return Err(Full);
     }
-    if words_left(got) < 2 {
-        return Err(Full);
-    }
-    special[3 + 2 * p] = key;
-    special[4 + 2 * p] = derived.maps[TYPES][i] - 1;
-    Ok(paired(got))
+    special.set_pair(p, key, derived.maps[TYPES][i] - 1);
+    Ok(got.with_pair())
 }

@@ -1,21 +1,22 @@
 -- What the classes refer to, and what becomes of their words.
-use Rattle.std.proofs.Common.{◌≡◌, ℕ, zero, suc, pred, ◌+◌, ◌-◌, ◌%◌, ◌^◌, ◌<◌, ◌≤◌, Bool, true, false, ◌&&◌, eqb, ltb, List, [], length, get_or, sym, refl, ap, ◌∙◌, arith, ltb-false, ltb-true, lt-ltb, eq-eqb, ne_eqb, eqb-true}
+use Rattle.std.proofs.Common.{◌≡◌, ℕ, zero, suc, pred, ◌+◌, ◌-◌, ◌%◌, ◌^◌, ◌<◌, ◌≤◌, Bool, true, false, ◌&&◌, ◌||◌, eqb, ltb, List, [], length, get_or, sym, refl, ap, subst, ◌∙◌, arith, ltb-false, ltb-true, lt-ltb, eq-eqb, ne_eqb, eqb-true}
 use lib.ListN.{get_or-eq_default}
+use mathlib.Core.Bool.{false≢true}
 use borrow.Author.Tests.{eqb-false}
 use Rattle.theory_lists.specs.Booleans.{and_split}
 use Rattle.model.specs.Tables.{code_t}
-use Rattle.model.specs.References.{Place, table, own, function, Target, copied, start, upto, ref, opt, targets, target, ref_of, carry_w, through, undefined, add, undefined_at, moved, alike_c}
-use Rattle.derive_state.proofs.State.{code_low}
+use Rattle.model.specs.References.{Place, table, own, function, Target, copied, start, upto, ref, opt, targets, target, Node, node, ref_of, carry_w, through, undefined, add, undefined_at, moved, alike_c}
+use Rattle.derive_state.proofs.State.{code_low, code_tab}
 use Rattle.theory_records.specs.RecordLaws.{All, bare_w}
 use Rattle.theory_records.specs.Kinds.{far_copied}
-use Rattle.derive_state.specs.Refers.{code_p, target_of, went_r, Small}
+use Rattle.derive_state.specs.Refers.{code_p, target_of, unspanned, tab_of, went_r}
 
 -- ---- a value that a function has on a range of numbers
-abbrev pub agrees : (ℕ → ℕ) → ℕ → ℕ → ℕ → Bool
+abbrev agrees : (ℕ → ℕ) → ℕ → ℕ → ℕ → Bool
 agrees f v lo zero = true
 agrees f v lo (suc n) = eqb v (f lo) && agrees f v (suc lo) n
 
-pub span_of : (f : ℕ → ℕ) (v lo n : ℕ) → agrees f v lo n ≡ true → (s : ℕ) → lo ≤ s → s < lo + n → v ≡ f s
+span_of : (f : ℕ → ℕ) (v lo n : ℕ) → agrees f v lo n ≡ true → (s : ℕ) → lo ≤ s → s < lo + n → v ≡ f s
 span_of f v lo zero e s a b = absurd (omega arith)
 span_of f v lo (suc n) e s a b =
     let q = and_split (eqb v (f lo)) (agrees f v (suc lo) n) e in
@@ -45,10 +46,31 @@ pub kind_small : (s : ℕ) → s < 256 → target_of (target s) < 14
 unfolding target_of code_p code_t target targets
 kind_small s h = below_at (λ s. target_of (target s)) 14 0 256 refl s (omega arith) h
 
--- classes whose words refer to nothing
-pub nothing_of : (s : ℕ) → s < 256 → (83 ≤ s → s < 95 → ⊥) → (99 ≤ s → s < 103 → ⊥) → 6 ≡ target_of (target s)
+-- ---- codes of places
+place-six : (p : Place) → code_p p ≡ 6 → ⊥
+unfolding code_p
+place-six (table t) e = omega (arith, code_low t)
+place-six own e = omega arith
+place-six function e = omega arith
+
+place-top : (p : Place) → code_p p < 8
+unfolding code_p
+place-top (table t) = omega (arith, code_low t)
+place-top own = omega arith
+place-top function = omega arith
+
+-- ---- classes whose words refer to nothing
+six_none : (g : Target) → 6 ≡ target_of g → copied ≡ unspanned g
+unfolding target_of unspanned
+six_none copied e = refl
+six_none start e = refl
+six_none upto e = refl
+six_none (ref p) e = absurd (place-six p (sym e))
+six_none (opt p) e = absurd (omega arith)
+
+pub nothing_of : (s : ℕ) → s < 256 → (83 ≤ s → s < 95 → ⊥) → (99 ≤ s → s < 103 → ⊥) → copied ≡ unspanned (target s)
 unfolding target_of code_p code_t target targets
-nothing_of s h f g = go (ltb s 83) (ltb s 95) (ltb s 99) (ltb s 103) refl refl refl refl
+nothing_of s h f g = six_none (target s) (go (ltb s 83) (ltb s 95) (ltb s 99) (ltb s 103) refl refl refl refl)
   where
     go : (a b c d : Bool) → ltb s 83 ≡ a → ltb s 95 ≡ b → ltb s 99 ≡ c → ltb s 103 ≡ d → 6 ≡ target_of (target s)
     go true b c d p q r t = span_of (λ s. target_of (target s)) 6 0 83 refl s (omega arith) (ltb-true s 83 p)
@@ -57,105 +79,80 @@ nothing_of s h f g = go (ltb s 83) (ltb s 95) (ltb s 99) (ltb s 103) refl refl r
     go false false false true p q r t = absurd (g (ltb-false s 99 r) (ltb-true s 103 t))
     go false false false false p q r t = span_of (λ s. target_of (target s)) 6 103 153 refl s (ltb-false s 103 t) (omega arith)
 
--- ---- codes of places
+-- ---- a word by what its class refers to: spans are as copied words there
+carry_unspanned : (went : Place → ℕ → ℕ) (g : Target) (w : ℕ) → carry_w went (unspanned g) w ≡ carry_w went g w
+unfolding unspanned carry_w
+carry_unspanned went copied w = refl
+carry_unspanned went start w = refl
+carry_unspanned went upto w = refl
+carry_unspanned went (ref p) w = refl
+carry_unspanned went (opt p) w = refl
 
-place-six : (p : Place) → code_p p ≡ 6 → ⊥
-unfolding code_p
-place-six (table t) e = omega (arith, code_low t)
-place-six own e = omega arith
-place-six function e = omega arith
+refs_unspanned : (g : Target) (w : ℕ) (rest : List Node) → ref_of (unspanned g) w rest ≡ ref_of g w rest
+unfolding unspanned ref_of
+refs_unspanned copied w rest = refl
+refs_unspanned start w rest = refl
+refs_unspanned upto w rest = refl
+refs_unspanned (ref p) w rest = refl
+refs_unspanned (opt p) w rest = refl
 
-pub place-top : (p : Place) → code_p p < 8
-unfolding code_p
-place-top (table t) = omega (arith, code_low t)
-place-top own = omega arith
-place-top function = omega arith
+code_unspanned : (g : Target) → target_of (unspanned g) ≡ target_of g
+unfolding unspanned target_of
+code_unspanned copied = refl
+code_unspanned start = refl
+code_unspanned upto = refl
+code_unspanned (ref p) = refl
+code_unspanned (opt p) = refl
 
--- ---- a word through the maps, by its target
-module _ (maps : List (List ℕ)) (six : length maps ≡ 6) where
-  none-W : (g : Target) (w : ℕ) → target_of g ≡ 6 → w ≡ carry_w (went_r maps) g w
-  unfolding target_of carry_w
-  none-W copied w e = refl
-  none-W start w e = refl
-  none-W upto w e = refl
-  none-W (ref p) w e = absurd (place-six p e)
-  none-W (opt p) w e = absurd (omega arith)
+module _ (s w : ℕ) where
+  module _ {m : Target} (is : m ≡ unspanned (target s)) where
+    pub code_meant : target_of m ≡ target_of (target s)
+    code_meant = rw is (code_unspanned (target s))
 
-  function-W : (g : Target) (w : ℕ) → target_of g ≡ 7 → 0 ≡ carry_w (went_r maps) g w
-  unfolding target_of carry_w went_r
-  function-W copied w e = absurd (omega arith)
-  function-W start w e = absurd (omega arith)
-  function-W upto w e = absurd (omega arith)
-  function-W (ref p) w e = rw (e, get_or-eq_default maps [] {n = 7} (omega arith))
-  function-W (opt p) w e = absurd (omega arith)
+    pub refs_meant : (rest : List Node) → ref_of m w rest ≡ ref_of (target s) w rest
+    refs_meant rest = rw is (refs_unspanned (target s) w rest)
 
-  ref_W : (g : Target) (w : ℕ) → target_of g < 6 → pred (get_or (get_or maps (target_of g) []) w 0) ≡ carry_w (went_r maps) g w
-  unfolding target_of carry_w went_r
-  ref_W copied w e = absurd (omega arith)
-  ref_W start w e = absurd (omega arith)
-  ref_W upto w e = absurd (omega arith)
-  ref_W (ref p) w e = refl
-  ref_W (opt p) w e = absurd (omega arith)
-
-  opt_W : (g : Target) (w : ℕ) → 8 ≤ target_of g → carry_w (went_r maps) g (suc w) ≡ get_or (get_or maps (target_of g - 8) []) w 0
-  unfolding target_of carry_w went_r
-  opt_W copied w e = absurd (omega arith)
-  opt_W start w e = absurd (omega arith)
-  opt_W upto w e = absurd (omega arith)
-  opt_W (ref p) w e = absurd (omega (arith, place-top p))
-  opt_W (opt p) w e = let q : 8 + code_p p - 8 ≡ code_p p = omega arith in rw q
-
-  zero_W : (g : Target) → 8 ≤ target_of g → 0 ≡ carry_w (went_r maps) g 0
-  unfolding target_of carry_w
-  zero_W copied e = absurd (omega arith)
-  zero_W start e = absurd (omega arith)
-  zero_W upto e = absurd (omega arith)
-  zero_W (ref p) e = absurd (omega (arith, place-top p))
-  zero_W (opt p) e = refl
-
-  module _ (s w u : ℕ) (is : u ≡ target_of (target s)) where
-    pub carried_none : u ≡ 6 → w ≡ through (went_r maps) s w
+    pub through_meant : (went : Place → ℕ → ℕ) → carry_w went m w ≡ through went s w
     unfolding through
-    carried_none e = none-W (target s) w (sym is ∙ e)
+    through_meant went = rw is (carry_unspanned went (target s) w)
 
-    pub carried-function : u ≡ 7 → 0 ≡ through (went_r maps) s w
-    unfolding through
-    carried-function e = function-W (target s) w (sym is ∙ e)
+  pub nothing_through : copied ≡ unspanned (target s) → (went : Place → ℕ → ℕ) → w ≡ through went s w
+  unfolding carry_w
+  nothing_through is went = through_meant is went
 
-    pub carried_ref : u < 6 → pred (get_or (get_or maps u []) w 0) ≡ through (went_r maps) s w
-    unfolding through
-    carried_ref e = rw is (ref_W (target s) w (omega arith))
+  pub ref_through : {p : Place} → ref p ≡ unspanned (target s) → (went : Place → ℕ → ℕ) → pred (went p w) ≡ through went s w
+  unfolding carry_w
+  ref_through is went = through_meant is went
 
-    pub carried_opt_none : 8 ≤ u → w ≡ 0 → 0 ≡ through (went_r maps) s w
-    unfolding through
-    carried_opt_none e z = rw z (zero_W (target s) (omega arith))
+  opt_through : {p : Place} → opt p ≡ unspanned (target s) → (went : Place → ℕ → ℕ) → (v : ℕ) → w ≡ v → carry_w went (opt p) v ≡ through went s w
+  opt_through {p} is went v e = ap (carry_w went (opt p)) (sym e) ∙ through_meant is went
 
-    pub carried_opt : 8 ≤ u → (w ≡ 0 → ⊥) → (m : ℕ) → m ≡ w - 1 → get_or (get_or maps (u - 8) []) m 0 ≡ through (went_r maps) s w
-    unfolding through
-    carried_opt e z m h = let q : w ≡ suc (w - 1) = omega arith in rw h (sym (ap (carry_w (went_r maps) (target s)) q ∙ opt_W (target s) (w - 1) (omega arith) ∙ rw (← is)))
+  pub zero_through : {p : Place} → opt p ≡ unspanned (target s) → w ≡ 0 → (went : Place → ℕ → ℕ) → 0 ≡ through went s w
+  unfolding carry_w
+  zero_through is none went = opt_through is went 0 none
 
--- the numbers are small
-ref_small : (g : Target) (w : ℕ) → target_of g < 6 → All Small (ref_of g w []) → w < 512
-unfolding target_of ref_of
-ref_small copied w e a = absurd (omega arith)
-ref_small start w e a = absurd (omega arith)
-ref_small upto w e a = absurd (omega arith)
-ref_small (ref p) w e a = a.0
-ref_small (opt p) w e a = absurd (omega arith)
+  pub some_through : {p : Place} → opt p ≡ unspanned (target s) → (w ≡ 0 → ⊥) → (went : Place → ℕ → ℕ) → went p (w - 1) ≡ through went s w
+  unfolding carry_w
+  some_through is some went = opt_through is went (suc (w - 1)) (omega arith)
 
-opt_small : (g : Target) (w : ℕ) → 8 ≤ target_of g → All Small (ref_of g (suc w) []) → w < 512
-unfolding target_of ref_of
-opt_small copied w e a = absurd (omega arith)
-opt_small start w e a = absurd (omega arith)
-opt_small upto w e a = absurd (omega arith)
-opt_small (ref p) w e a = absurd (omega (arith, place-top p))
-opt_small (opt p) w e a = a.0
+  -- the number that it has
+  module _ (P : Node → Type 0) (all : All P (ref_of (target s) w [])) where
+    pub ref_good : {p : Place} → ref p ≡ unspanned (target s) → P (node p w)
+    unfolding ref_of
+    ref_good is = (rw (← refs_meant is []) at all).0
 
-pub small_ref : (s w u : ℕ) → u ≡ target_of (target s) → u < 6 → All Small (ref_of (target s) w []) → w < 512
-small_ref s w u is e a = ref_small (target s) w (omega arith) a
+    pub some_good : {p : Place} → opt p ≡ unspanned (target s) → (w ≡ 0 → ⊥) → P (node p (w - 1))
+    unfolding ref_of
+    some_good {p} is some = let q : w ≡ suc (w - 1) = omega (arith, some) in (subst (λ (v : ℕ). All P (ref_of (opt p) v [])) q (rw (← refs_meant is []) at all)).0
 
-pub small_opt : (s w u : ℕ) → u ≡ target_of (target s) → 8 ≤ u → (w ≡ 0 → ⊥) → All Small (ref_of (target s) w []) → w - 1 < 512
-small_opt s w u is e z a = let q : w ≡ suc (w - 1) = omega arith in opt_small (target s) (w - 1) (omega arith) (rw q at a)
+-- a row of the maps
+pub row_is : (maps : List (List ℕ)) (t : ℕ) → t < 6 → (n : ℕ) → get_or (get_or maps t []) n 0 ≡ went_r maps (table (tab_of t)) n
+unfolding went_r code_p
+row_is maps t low n = rw (code_tab t low)
+
+pub no_row : (maps : List (List ℕ)) → length maps ≡ 6 → (n : ℕ) → 0 ≡ pred (went_r maps function n)
+unfolding went_r code_p
+no_row maps six n = rw (get_or-eq_default maps [] {n = 7} (omega arith))
 
 -- ---- spans
 span_code : Target → ℕ
@@ -177,6 +174,22 @@ high_code s h = go (ltb s 103) refl
     go true e = span_of (λ s. span_code (target s)) 0 83 20 refl s h (ltb-true s 103 e)
     go false e = rw (far_copied s (ltb-false s 103 e))
 
+-- a class is a span's, or not
+span_is : (s : ℕ) → (eqb s 81 || eqb s 82) ≡ true → (81 ≤ s) × (s ≤ 82)
+span_is s e = go (eqb s 81) refl e
+  where
+    go : (x : Bool) → eqb s 81 ≡ x → (x || eqb s 82) ≡ true → (81 ≤ s) × (s ≤ 82)
+    go true q h = let z = eqb-true s 81 q in (omega arith, omega arith)
+    go false q h = let z = eqb-true s 82 h in (omega arith, omega arith)
+
+no_span : (s : ℕ) → (eqb s 81 || eqb s 82) ≡ false → 0 ≡ span_code (target s)
+no_span s e = go (eqb s 81) (ltb s 81) refl refl e
+  where
+    go : (x y : Bool) → eqb s 81 ≡ x → ltb s 81 ≡ y → (x || eqb s 82) ≡ false → 0 ≡ span_code (target s)
+    go true y p q h = absurd (false≢true (sym h))
+    go false true p q h = low_code s (ltb-true s 81 q)
+    go false false p q h = high_code s (omega (arith, eqb-false s 81 p, eqb-false s 82 h, ltb-false s 81 q))
+
 still : (g : Target) (w next : ℕ) (u : Bool) → 0 ≡ span_code g → (u ≡ undefined_at g w next u) × ((o : ℕ) → w ≡ moved g w o u)
 unfolding span_code undefined_at moved
 still copied w next u e = (refl, λ o. refl)
@@ -194,33 +207,9 @@ undefined-other s w next u ne = go (ltb s 81) (eqb s 82) refl refl
     go false true p q = rw (eqb-true s 82 q)
     go false false p q = (still (target s) w next u (high_code s (omega (arith, ltb-false s 81 p, eqb-false s 82 q)))).0
 
-pub undefined_no : (s w next : ℕ) (u : Bool) → s ≡ 81 → (w ≡ 0 → ⊥) → false ≡ undefined_at (target s) w next u
+pub undefined_start : (s w next : ℕ) (u : Bool) → s ≡ 81 → (eqb w 0 && eqb next 0) ≡ undefined_at (target s) w next u
 unfolding target targets undefined_at undefined
-undefined_no s w next u e ne = rw (e, ne_eqb w 0 ne)
-
-pub undefined-next : (s w next : ℕ) (u : Bool) → s ≡ 81 → w ≡ 0 → (x : ℕ) → x ≡ next → eqb x 0 ≡ undefined_at (target s) w next u
-unfolding target targets undefined_at undefined
-undefined-next s w next u e z x q = rw (e, z, q)
-
-pub undefined-both : (s w next : ℕ) (u : Bool) → s ≡ 81 → eqb (w + next) 0 ≡ undefined_at (target s) w next u
-unfolding target targets undefined_at undefined
-undefined-both s w next u e = rw e (go w)
-  where
-    go : (w : ℕ) → eqb (w + next) 0 ≡ (eqb w 0 && eqb next 0)
-    go w = by (eqb w 0) refl
-      where
-        by : (b : Bool) → eqb w 0 ≡ b → eqb (w + next) 0 ≡ (eqb w 0 && eqb next 0)
-        by true q = let z = eqb-true w 0 q in let y : w + next ≡ next = omega arith in rw (q, y)
-        by false q = let z = eqb-false w 0 q in rw (q, ne_eqb (w + next) 0 (λ y. z (omega arith)))
-
-pub undefined-none : (s w next : ℕ) (u : Bool) → s ≡ 81 → w ≡ 0 → 0 ≡ next → true ≡ undefined_at (target s) w next u
-undefined-none s w next u e z q = undefined-next s w next u e z 0 q
-
-pub moved_low : (s w o : ℕ) (u : Bool) → s < 81 → w ≡ moved (target s) w o u
-moved_low s w o u h = (still (target s) w 0 u (low_code s h)).1 o
-
-pub moved_high : (s w o : ℕ) (u : Bool) → 82 < s → w ≡ moved (target s) w o u
-moved_high s w o u h = (still (target s) w 0 u (high_code s h)).1 o
+undefined_start s w next u e = rw e
 
 still-bare : (g : Target) (w : ℕ) → 0 ≡ span_code g → w ≡ bare_w g w
 unfolding span_code bare_w
@@ -230,19 +219,16 @@ still-bare upto w e = absurd (omega arith)
 still-bare (ref p) w e = refl
 still-bare (opt p) w e = refl
 
-pub bare_low : (s w : ℕ) → s < 81 → w ≡ bare_w (target s) w
-bare_low s w h = still-bare (target s) w (low_code s h)
+pub bare_other : (s w : ℕ) → (eqb s 81 || eqb s 82) ≡ false → w ≡ bare_w (target s) w
+bare_other s w e = still-bare (target s) w (no_span s e)
 
-pub bare_high : (s w : ℕ) → 82 < s → w ≡ bare_w (target s) w
-bare_high s w h = still-bare (target s) w (high_code s h)
-
-pub bare_span : (s w : ℕ) → 81 ≤ s → s ≤ 82 → 0 ≡ bare_w (target s) w
+pub bare_span : (s w : ℕ) → (eqb s 81 || eqb s 82) ≡ true → 0 ≡ bare_w (target s) w
 unfolding target targets bare_w
-bare_span s w a b = go (eqb s 81) refl
+bare_span s w h = go (eqb s 81) refl
   where
     go : (x : Bool) → eqb s 81 ≡ x → 0 ≡ bare_w (target s) w
     go true e = rw (eqb-true s 81 e)
-    go false e = let q : s ≡ 82 = omega (arith, eqb-false s 81 e) in rw q
+    go false e = let r = span_is s h in let q : s ≡ 82 = omega (arith, r, eqb-false s 81 e) in rw q
 
 span_moved : (s w o : ℕ) (u : Bool) → 81 ≤ s → s ≤ 82 → add u o w ≡ moved (target s) w o u
 unfolding target targets moved
@@ -252,13 +238,16 @@ span_moved s w o u a b = go (eqb s 81) refl
     go true e = rw (eqb-true s 81 e)
     go false e = let q : s ≡ 82 = omega (arith, eqb-false s 81 e) in rw q
 
-pub moved-kept : (s w o : ℕ) (u : Bool) → 81 ≤ s → s ≤ 82 → u ≡ true → w ≡ moved (target s) w o u
-unfolding add
-moved-kept s w o u a b e = rw e (span_moved s w o true a b)
+pub moved_other : (s w o : ℕ) (u : Bool) → (eqb s 81 || eqb s 82) ≡ false → w ≡ moved (target s) w o u
+moved_other s w o u e = (still (target s) w 0 u (no_span s e)).1 o
 
-pub moved_on : (s w o : ℕ) (u : Bool) → 81 ≤ s → s ≤ 82 → u ≡ false → (r : ℕ) → r ≡ (w + o) % 2 ^ 32 → r ≡ moved (target s) w o u
+pub moved_kept : (s w o : ℕ) (u : Bool) → (eqb s 81 || eqb s 82) ≡ true → u ≡ true → w ≡ moved (target s) w o u
 unfolding add
-moved_on s w o u a b e r is = is ∙ rw e (span_moved s w o false a b)
+moved_kept s w o u h e = let r = span_is s h in rw e (span_moved s w o true r.0 r.1)
+
+pub moved_on : (s w o : ℕ) (u : Bool) → (eqb s 81 || eqb s 82) ≡ true → u ≡ false → (r : ℕ) → r ≡ (w + o) % 2 ^ 32 → r ≡ moved (target s) w o u
+unfolding add
+moved_on s w o u h e r is = let q = span_is s h in is ∙ rw e (span_moved s w o false q.0 q.1)
 
 -- ---- cells alike
 module _ (a x b y : ℕ) where
@@ -270,10 +259,6 @@ module _ (a x b y : ℕ) where
   unfolding alike_c
   alike-word e f = rw (eq-eqb a b e, alike_c, eq-eqb x y f)
 
-  pub alike_start : a ≡ b → (x ≡ y → ⊥) → a ≡ 81 → true ≡ alike_c (a, x) (b, y)
+  pub alike_span : a ≡ b → (x ≡ y → ⊥) → (eqb b 81 || eqb b 82) ≡ alike_c (a, x) (b, y)
   unfolding alike_c
-  alike_start e f g = rw (eq-eqb a b e, alike_c, ne_eqb x y f, eq-eqb a 81 g)
-
-  pub alike_upto : a ≡ b → (x ≡ y → ⊥) → (a ≡ 81 → ⊥) → eqb a 82 ≡ alike_c (a, x) (b, y)
-  unfolding alike_c
-  alike_upto e f g = rw (eq-eqb a b e, alike_c, ne_eqb x y f, ne_eqb a 81 g)
+  alike_span e f = rw (eq-eqb a b e, alike_c, ne_eqb x y f, e)

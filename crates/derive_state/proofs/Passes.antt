@@ -65,26 +65,25 @@ unfolding first_word
 following_none went tags words i end h = rw (carried-nothing went tags words i end h)
 
 -- a record's words but for the first
-pub read_next : (words tags targets : List ℕ) (i end : ℕ) → Readable words tags targets i end → i < end → Readable words tags targets (i + 1) end
-read_next words tags targets i end R h =
+pub read_next : (words tags : List ℕ) (i end : ℕ) → Readable words tags i end → i < end → Readable words tags (i + 1) end
+read_next words tags i end R h =
     let s = R.stretch in
     record {
       stretch = record { rising = omega arith; small = s.small; in_words = s.in_words; in_tags = s.in_tags };
       words_long = R.words_long;
       tags_long = R.tags_long;
       small = rw add-one (all-next tags words i end h s.in_tags s.in_words Small R.small);
-      targets_are = R.targets_are;
     }
 
 -- ---- hashing
-module _ (words tags targets : List ℕ) (went : Place → ℕ → ℕ) (at end t : ℕ) where
+module _ (words tags : List ℕ) (went : Place → ℕ → ℕ) (at end t : ℕ) where
   pub record Hashing (h i : ℕ) : Type 0 where
     pub within : i ≤ end
     pub small : h < 2 ^ 24
-    pub readable : Readable words tags targets i end
+    pub readable : Readable words tags i end
     pub left : mixed (map word (bare (carried_by went tags words i end))) h ≡ hash_r t (carried_by went tags words at end)
 
-  pub hash-begin : Readable words tags targets at end → t < 8 → Hashing t at
+  pub hash-begin : Readable words tags at end → t < 8 → Hashing t at
   unfolding hash_r
   hash-begin R h = record { within = R.stretch.rising; small = omega arith; readable = R; left = refl }
 
@@ -103,7 +102,7 @@ module _ (words tags targets : List ℕ) (went : Place → ℕ → ℕ) (at end 
           let R = inv.readable in
           let c = carried-next tags words i end less R.stretch.in_tags R.stretch.in_words went in
           let a = rw c at inv.left in
-          record { within = omega arith; small = re.1; readable = read_next words tags targets i end R less; left = rw (re.0, be, we, add-one i) a }
+          record { within = omega arith; small = re.1; readable = read_next words tags i end R less; left = rw (re.0, be, we, add-one i) a }
 
 -- ---- comparing
 alike-short : (a b : Cells) → (length a ≡ length b → ⊥) → alike a b ≡ false

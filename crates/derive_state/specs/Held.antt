@@ -14,7 +14,7 @@ use Rattle.model.specs.Tables.{Tab, code_t, six, Tables, count, Maps}
 use Rattle.model.specs.References.{Place, refs, through, index_of}
 use Rattle.model.specs.Imports.{Derived}
 use Rattle.theory_records.specs.RecordLaws.{All}
-use Rattle.derive_state.specs.Refers.{Small, target_bytes}
+use Rattle.derive_state.specs.Refers.{Small}
 use Rattle.derive_state.specs.Flats.{function_of, entry_of, special_of}
 use Rattle.derive_state.specs.Marks.{MARKS, Marked, Marks}
 use Rattle.derive_state.specs.Sizes.{Sizes, going, told}
@@ -197,13 +197,12 @@ pub record ImportsOrUndoes (words : List ℕ) (f : Derived → Derived) (d : Der
   pub same : SameArrays d d'
 
 -- ---- a record of the source on its way
--- it lies in words and tags, its numbers are in rows, and `targets` says what its classes refer to; a clause, since of one source there are many such stretches
-pub record Readable (words tags targets : List ℕ) (at end : ℕ) : Type 0 where
+-- it lies in words and tags, and its numbers are in rows; a clause, since of one source there are many such stretches
+pub record Readable (words tags : List ℕ) (at end : ℕ) : Type 0 where
   pub stretch : Stretch words tags at end
   pub words_long : length words ≡ 16384
   pub tags_long : length tags ≡ 16384
   pub small : All Small (refs (between tags words at end))
-  pub targets_are : targets ≡ target_bytes
 
 -- source cells, where `went` says what numbers are mapped to
 unfoldable pub carried_by : (Place → ℕ → ℕ) → List ℕ → List ℕ → ℕ → ℕ → Cells

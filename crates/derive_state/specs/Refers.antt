@@ -1,5 +1,5 @@
 -- What a word refers to, as the code has it: the code of a table, and what the numbers of the source are mapped to by rows of words.
-use Rattle.std.specs.Prelude.{ℕ, zero, suc, ◌+◌, ◌<◌, List, [], ◌∷◌, slice_index, slice_index_or}
+use Rattle.std.specs.Prelude.{ℕ, zero, suc, ◌+◌, ◌<◌, List, [], slice_index, slice_index_or}
 use Rattle.model.specs.Tables.{Tab, names, types, constants, overrides, globals, exprs, code_t}
 use Rattle.model.specs.References.{Place, table, own, function, Target, copied, start, upto, ref, opt, target, Node}
 use Rattle.derive_state.specs.declared.Target.{Target as Target'}
@@ -19,27 +19,7 @@ target_of upto = 6
 target_of (ref p) = code_p p
 target_of (opt p) = 8 + code_p p
 
--- the same of a target as the code has it, which names one of the six tables
-abbrev pub code_of : Target' → ℕ
-code_of code.Nothing = 6
-code_of code.Function = 7
-code_of (code.Record t) = t
-code_of (code.Optional t) = 8 + t
-
-abbrev pub InTable : Target' → Type 0
-InTable code.Nothing = Unit {0}
-InTable code.Function = Unit {0}
-InTable (code.Record t) = t < 6
-InTable (code.Optional t) = t < 6
-
--- the targets of all classes, as a table of bytes
-unfoldable pub targets_from : ℕ → ℕ → List ℕ
-targets_from s zero = []
-targets_from s (suc n) = target_of (target s) ∷ targets_from (suc s) n
-
-unfoldable pub target_bytes : List ℕ
-target_bytes = targets_from 0 256
-
+-- the table that has a code
 unfoldable pub tab_of : ℕ → Tab
 tab_of zero = names
 tab_of (suc zero) = types
@@ -47,6 +27,31 @@ tab_of (suc (suc zero)) = constants
 tab_of (suc (suc (suc zero))) = overrides
 tab_of (suc (suc (suc (suc zero)))) = globals
 tab_of (suc (suc (suc (suc (suc n))))) = exprs
+
+-- what a target of the code is in the model; the code has one for the words that refer to nothing, of spans too
+abbrev pub means : Target' → Target
+means code.Nothing = copied
+means code.Function = ref function
+means (code.Record t) = ref (table (tab_of t))
+means (code.Optional t) = opt (table (tab_of t))
+means code.Own = ref own
+means code.OptionalOwn = opt own
+
+unfoldable pub unspanned : Target → Target
+unspanned copied = copied
+unspanned start = copied
+unspanned upto = copied
+unspanned (ref p) = ref p
+unspanned (opt p) = opt p
+
+-- its table is one of the six
+abbrev pub InTable : Target' → Type 0
+InTable code.Nothing = Unit {0}
+InTable code.Function = Unit {0}
+InTable (code.Record t) = t < 6
+InTable (code.Optional t) = t < 6
+InTable code.Own = Unit {0}
+InTable code.OptionalOwn = Unit {0}
 
 -- what a number is mapped to, by rows
 unfoldable pub went_r : List (List ℕ) → Place → ℕ → ℕ

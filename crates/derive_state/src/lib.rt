@@ -3,17 +3,24 @@
 // and that many words. What a record of the source becomes is hashed, compared with a derived record, and written to the log.
 #![tactic(auto)]
 
-ghost use Rattle.std.specs.Prelude.{◌≡◌, suc, pred, ◌+◌, ◌-◌, ◌*◌, ◌<◌, ◌≤◌, true, false, [], length, replicate, slice_index, slice_set};
+ghost use Rattle.std.specs.Prelude.{◌≡◌, suc, pred, ◌+◌, ◌-◌, ◌*◌, ◌<◌, ◌≤◌, true, false, ◌||◌, [], eqb, length, replicate, slice_index, slice_set};
+ghost use Rattle.model.specs.Table.{SPAN as SPAN', UPTO as UPTO'};
 ghost use Rattle.model.specs.References.{target, ref_of, through, undefined_at, first_word, moved as movedOf, shift, alike_c, alike as alikeOf};
 ghost use Rattle.theory_records.specs.RecordLaws.{All, bare_w};
-ghost use Rattle.derive_state.specs.Refers.{target_of, code_of, InTable, target_bytes, went_r, Small};
+ghost use Rattle.derive_state.specs.Refers.{means, unspanned, InTable, went_r, Small};
 ghost use Rattle.derive_state.specs.Marks.{MARKS, hash_r, place_r};
 ghost use Rattle.derive_state.specs.Held.{rec_at, Readable, Written, carried_by};
+ghost use Rattle.base_refusals.specs.declared.Refusal.TheVariants.{Full as full};
 
 use base_classes::{SPAN, UPTO};
+use base_refusals::Refusal;
 use base_views::{CONSTANTS, EXPRESSIONS, GLOBALS, Image, NAMES, OVERRIDES, TYPES};
 use intake_distinct::mix;
 use std::num::wrapping_add_u32;
+
+mod special_types;
+
+pub use special_types::Special;
 
 // The words of all derived records.
 pub type Log = [u32; 16384];
@@ -24,14 +31,12 @@ pub type LogTags = [u8; 16384];
 // Where each record starts in the log, a row for each table.
 pub type Starts = [[u32; 512]; 8];
 
-// Derived numbers plus 1 by source numbers, a row for each table.
+// Derived numbers plus 1 by source numbers, a row for each table; 0 where a number is not mapped. The C interface lends the maps as words, and clearing makes them 0;
+// what refers to an optional record takes such a word as it is. `Option<u32>` in the array would be twice as large, and be cleared number by number.
 pub type Maps = [[u32; 512]; 6];
 
 // A hash table of the derived records.
 pub type Buckets = [u16; 16384];
-
-// The derived special types.
-pub type Special = [u32; 1027];
 
 // Functions under construction.
 pub type StackRows = [[u32; 16384]; 4];
@@ -54,9 +59,66 @@ pub struct Sizes {
     pub made: u16,
 }
 
+impl Sizes {
+    // The sizes of an empty module.
+    pub fn empty() -> Sizes
+        ensures { result ≡ record { loglen = 0; counts = replicate 8 0; pairs = 0; exprtop = 0; bodytop = 0; made = 0 } }
+    {
+        Sizes {
+            loglen: 0,
+            counts: [0; 8],
+            pairs: 0,
+            exprtop: 0,
+            bodytop: 0,
+            made: 0,
+        }
+    }
+
+    // The sizes with one record more in table t, of n words with its count.
+    pub fn with_record(self, t: usize, n: usize) -> Sizes
+        requires { (t < 8) × (self.loglen + n ≤ 16384) × (slice_index self.counts t < 512) }
+        ensures { result ≡ record { loglen = self.loglen + n; counts = slice_set self.counts t (slice_index self.counts t + 1); pairs = self.pairs; exprtop = self.exprtop; bodytop = self.bodytop; made = self.made } }
+    {
+        let mut c = self.counts;
+        c[t] += 1;
+        Sizes {
+            loglen: (self.loglen as usize + n) as u16,
+            counts: c,
+            ..self
+        }
+    }
+
+    // The sizes with one pair of a key and a special type more.
+    pub fn with_pair(self) -> Sizes
+        requires { self.pairs < 512 }
+        ensures { result ≡ record { loglen = self.loglen; counts = self.counts; pairs = self.pairs + 1; exprtop = self.exprtop; bodytop = self.bodytop; made = self.made } }
+    {
+        Sizes {
+            pairs: self.pairs + 1,
+            ..self
+        }
+    }
+
+    // How many words the image has left.
+    pub fn words_left(self) -> usize
+        requires { 23 + 2 * self.pairs + self.loglen ≤ 16384 }
+        ensures { result + (23 + 2 * self.pairs + self.loglen) ≡ 16384 }
+    {
+        16361 - 2 * self.pairs as usize - self.loglen as usize
+    }
+}
+
 // Why an operation is refused that makes the derived module larger than an image can be: too many records of a table, or too many words.
 #[derive(Clone, Copy)]
 pub struct Full;
+
+impl From<Full> for Refusal {
+    ghost from_gives = { λ _ r. r ≡ full };
+
+    fn from(_full: Full) -> Refusal {
+        Refusal::Full
+    }
+}
 
 // The derived module for those that only read it: the arrays, and how much of them is in use.
 #[derive(Clone, Copy)]
@@ -102,20 +164,6 @@ pub struct ShaderSource<'a> {
     pub offset: u32,
 }
 
-// The sizes of an empty module.
-pub fn empty() -> Sizes
-    ensures { result ≡ record { loglen = 0; counts = replicate 8 0; pairs = 0; exprtop = 0; bodytop = 0; made = 0 } }
-{
-    Sizes {
-        loglen: 0,
-        counts: [0; 8],
-        pairs: 0,
-        exprtop: 0,
-        bodytop: 0,
-        made: 0,
-    }
-}
-
 // Clears all maps: nothing is mapped.
 pub fn clear_maps(maps: &mut Maps)
     ensures { maps.new ≡ replicate 6 (replicate 512 0) }
@@ -123,41 +171,21 @@ pub fn clear_maps(maps: &mut Maps)
     *maps = [[0; 512]; 6];
 }
 
-// The sizes with one record more in table t, of n words with its count.
-pub fn with_record(e: Sizes, t: usize, n: usize) -> Sizes
-    requires { (t < 8) × (e.loglen + n ≤ 16384) × (slice_index e.counts t < 512) }
-    ensures { result ≡ record { loglen = e.loglen + n; counts = slice_set e.counts t (slice_index e.counts t + 1); pairs = e.pairs; exprtop = e.exprtop; bodytop = e.bodytop; made = e.made } }
-{
-    let mut c = e.counts;
-    c[t] += 1;
-    Sizes {
-        loglen: (e.loglen as usize + n) as u16,
-        counts: c,
-        ..e
-    }
-}
-
-// How many words the image has left.
-pub fn words_left(e: Sizes) -> usize
-    requires { 23 + 2 * e.pairs + e.loglen ≤ 16384 }
-    ensures { result + (23 + 2 * e.pairs + e.loglen) ≡ 16384 }
-{
-    16361 - 2 * e.pairs as usize - e.loglen as usize
-}
-
-// What a word refers to: nothing, a function, or a record of a table; one that may be missing is 0 then, and else its number plus 1. An expression of the word's
-// own function has the table of global expressions.
+// What a word refers to: nothing, a function, a record of a table, or an expression of the word's own function; among global expressions that is one of these.
+// One that may be missing is 0 then, and else its number plus 1.
 #[derive(Clone, Copy)]
 pub enum Target {
     Nothing,
     Function,
     Record(usize),
     Optional(usize),
+    Own,
+    OptionalOwn,
 }
 
 // What the words of a class refer to.
 pub fn target_of(class: u8) -> Target
-    ensures { (code_of result ≡ target_of (target class)) × InTable result }
+    ensures { (means result ≡ unspanned (target class)) × InTable result }
 {
     match class {
         base_classes::NAME => Target::Optional(NAMES),
@@ -170,12 +198,12 @@ pub fn target_of(class: u8) -> Target
         base_classes::OPT_INIT => Target::Optional(EXPRESSIONS),
         base_classes::FUNCTION => Target::Function,
         base_classes::CALLEE => Target::Function,
-        base_classes::EXPR => Target::Record(EXPRESSIONS),
-        base_classes::OPT_EXPR => Target::Optional(EXPRESSIONS),
-        base_classes::RESULT => Target::Record(EXPRESSIONS),
-        base_classes::OPT_RESULT => Target::Optional(EXPRESSIONS),
-        base_classes::NAMED_EXPR => Target::Record(EXPRESSIONS),
-        base_classes::LOCAL_INIT => Target::Optional(EXPRESSIONS),
+        base_classes::EXPR => Target::Own,
+        base_classes::OPT_EXPR => Target::OptionalOwn,
+        base_classes::RESULT => Target::Own,
+        base_classes::OPT_RESULT => Target::OptionalOwn,
+        base_classes::NAMED_EXPR => Target::Own,
+        base_classes::LOCAL_INIT => Target::OptionalOwn,
         _ => Target::Nothing,
     }
 }
@@ -196,21 +224,32 @@ pub fn carried(maps: &Maps, s: u8, w: u32) -> u32
         Target::Nothing => w,
         Target::Function => 0,
         Target::Record(t) => number_of(maps[t][w as usize]),
+        Target::Own => number_of(maps[EXPRESSIONS][w as usize]),
         Target::Optional(_) if w == 0 => 0,
         Target::Optional(t) => maps[t][w as usize - 1],
+        Target::OptionalOwn if w == 0 => 0,
+        Target::OptionalOwn => maps[EXPRESSIONS][w as usize - 1],
     }
 }
 
-// Whether the word x of the class a equals the word y of the class b; for words of spans only the classes are compared.
-pub fn alike_cell(a: u8, x: u32, b: u8, y: u32) -> bool
+// Whether words of the class s are a span's.
+pub fn is_span(s: u8) -> bool
+    ensures { result ≡ (eqb s SPAN' || eqb s UPTO') }
+{
+    s == SPAN || s == UPTO
+}
+
+// Whether the derived word x of the class a equals the word y of the class b; for words of spans only the classes are compared. A derived class is as wide here as
+// the stacks of functions have it.
+pub fn alike_cell(a: u32, x: u32, b: u8, y: u32) -> bool
     ensures { result ≡ alike_c (a, x) (b, y) }
 {
-    a == b && (x == y || a == SPAN || a == UPTO)
+    a == b as u32 && (x == y || is_span(b))
 }
 
 // Whether the record at s is what the source's words from `at` to `end` become, ignoring spans.
 pub fn alike(image: Image, derived: &Derived, at: usize, end: usize, s: usize) -> bool
-    requires readable { Readable image.words.now image.tags.now target_bytes at end }
+    requires readable { Readable image.words.now image.tags.now at end }
     requires s_bound { (s + suc (slice_index derived.now.log.now s) ≤ 16384) × (length derived.now.log.now ≡ 16384) × (length derived.now.logtags.now ≡ 16384) }
     ensures { result ≡ alikeOf (rec_at derived.now.log.now derived.now.logtags.now s) (carried_by (went_r derived.now.maps.now) image.entry.tags.now image.entry.words.now at end) }
 {
@@ -221,7 +260,7 @@ pub fn alike(image: Image, derived: &Derived, at: usize, end: usize, s: usize) -
         let q = s + 1 + (j - at);
         let b = image.tags[j];
         let y = carried(derived.maps, b, image.words[j]);
-        if !alike_cell(derived.logtags[q], derived.log[q], b, y) {
+        if !alike_cell(derived.logtags[q] as u32, derived.log[q], b, y) {
             return false;
         }
     }
@@ -232,12 +271,12 @@ pub fn alike(image: Image, derived: &Derived, at: usize, end: usize, s: usize) -
 fn bare_word(s: u8, w: u32) -> u32
     ensures { result ≡ bare_w (target s) w }
 {
-    if s < SPAN || UPTO < s { w } else { 0 }
+    if is_span(s) { 0 } else { w }
 }
 
 // The hash of what the source's words become in table t.
 fn hash(image: Image, maps: &Maps, at: usize, end: usize, t: usize) -> usize
-    requires readable { Readable image.words.now image.tags.now target_bytes at end }
+    requires readable { Readable image.words.now image.tags.now at end }
     requires t_bound { t < 8 }
     ensures { result ≡ hash_r t (carried_by (went_r maps.now) image.entry.tags.now image.entry.words.now at end) }
 {
@@ -251,33 +290,41 @@ fn hash(image: Image, maps: &Maps, at: usize, end: usize, t: usize) -> usize
 
 // Its place among the buckets.
 pub fn bucket_of(image: Image, maps: &Maps, at: usize, end: usize, t: usize) -> usize
-    requires readable { Readable image.words.now image.tags.now target_bytes at end }
+    requires readable { Readable image.words.now image.tags.now at end }
     requires t_bound { t < 8 }
     ensures { (result ≡ place_r t (carried_by (went_r maps.now) image.entry.tags.now image.entry.words.now at end)) × (result < MARKS) }
 {
     hash(image, maps, at, end, t) % 16384
 }
 
-// Whether the span last met is undefined, once the word w of the class s is read; the words from i on follow it.
-fn undefined_at(image: Image, maps: &Maps, s: u8, w: u32, i: usize, end: usize, u: bool) -> bool
-    requires readable { Readable image.words.now image.tags.now target_bytes i end }
-    ensures { result ≡ undefined_at (target s) w (first_word (carried_by (went_r maps.now) image.entry.tags.now image.entry.words.now i end)) u }
+// Whether the span last met is undefined, once the word w of the class s is read, which `next` follows.
+pub fn undefined_at(s: u8, w: u32, next: u32, u: bool) -> bool
+    ensures { result ≡ undefined_at (target s) w next u }
 {
-    if s == SPAN {
-        w == 0 && (end <= i || carried(maps, image.tags[i], image.words[i]) == 0)
-    } else {
-        u
-    }
+    if s == SPAN { w == 0 && next == 0 } else { u }
 }
 
 // A span's word moved by the offset, unless the span is undefined; any other word as it is.
 pub fn moved(s: u8, w: u32, offset: u32, u: bool) -> u32
     ensures { result ≡ movedOf (target s) w offset u }
 {
-    if s < SPAN || UPTO < s || u {
-        return w;
+    if is_span(s) && !u {
+        wrapping_add_u32(w, offset)
+    } else {
+        w
     }
-    wrapping_add_u32(w, offset)
+}
+
+// What word i of the source becomes; 0 at the end.
+fn carried_or_end(image: Image, maps: &Maps, i: usize, end: usize) -> u32
+    requires readable { Readable image.words.now image.tags.now i end }
+    ensures { result ≡ first_word (carried_by (went_r maps.now) image.entry.tags.now image.entry.words.now i end) }
+{
+    if i < end {
+        carried(maps, image.tags[i], image.words[i])
+    } else {
+        0
+    }
 }
 
 // Writes what the source's words from `at` to `end` become to the log, from `to` on. It takes the two arrays that it writes, not the module: what stays needs no
@@ -291,17 +338,19 @@ pub fn write(
     end: usize,
     to: usize,
 )
-    requires readable { Readable source.image.words.now source.image.tags.now target_bytes at end }
+    requires readable { Readable source.image.words.now source.image.tags.now at end }
     requires at_bound { (to + (end - at) ≤ 16384) × (length log.old ≡ 16384) × (length logtags.old ≡ 16384) }
     ensures { Written (shift (carried_by (went_r maps.now) source.entry.image.tags.now source.entry.image.words.now at end) source.entry.offset false) to log.old logtags.old log.new logtags.new }
 {
     let mut u = false;
+    let mut w = carried_or_end(source.image, maps, at, end);
     for j in at..end {
         let q = to + (j - at);
         let s = source.image.tags[j];
-        let w = carried(maps, s, source.image.words[j]);
-        u = undefined_at(source.image, maps, s, w, j + 1, end, u);
+        let next = carried_or_end(source.image, maps, j + 1, end);
+        u = undefined_at(s, w, next, u);
         log[q] = moved(s, w, source.offset, u);
         logtags[q] = s;
+        w = next;
     }
 }

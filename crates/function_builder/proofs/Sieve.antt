@@ -1,20 +1,20 @@
 -- Finding an expression on the stack that equals a record: most differ from it in their lengths, or in one word of the record.
 use mathlib.Core.Path.{◌≡◌, refl, sym, ◌∙◌}
-use mathlib.Core.Bool.{Bool, true, false}
+use mathlib.Core.Bool.{Bool, true, false, ◌||◌}
 use mathlib.Core.List.{List, []}
 use Prim.Native.Nat.{ℕ, zero, suc, ◌+◌, ◌-◌, ◌≤◌, ◌<◌}
 use native.Mathlib.Nat.{le_refl, le_of_lt}
 use native.Mathlib.Omega.{arith}
 use lib.Dec.{eqb, ltb}
 use lib.ListN.{length, get_or, drop}
-use borrow.Author.Tests.{ltb-true, ltb-false, eqb-true, eqb-false, ne_eqb}
+use borrow.Author.Tests.{ltb-true, ltb-false, eqb-true, eqb-false}
 use Rattle.model.specs.Outcome.{Cells}
 use Rattle.model.specs.Between.{between}
 use Rattle.model.specs.References.{Place, target, ref_of, through, alike_c, alike, index_of}
 use Rattle.theory_records.specs.RecordLaws.{All}
 use Rattle.derive_state.specs.Held.{row, cell, carried_by}
 use Rattle.derive_state.specs.Sizes.{Sizes}
-use Rattle.derive_state.proofs.Classes.{alike-class, alike_upto}
+use Rattle.derive_state.proofs.Classes.{alike-class, alike_span}
 use Rattle.derive_state.proofs.Passes.{compares_short}
 use Rattle.derive_state.proofs.Unlike.{all-at, unlike}
 use Rattle.function_references.specs.Fits.{FitN, Legible}
@@ -24,11 +24,11 @@ use Rattle.function_builder.specs.Makes.{Hops}
 use Rattle.function_builder.proofs.Stacked.{Seating, seat_room, seat_first, seat_at, seat_within, seat_found, seat_more, seat_last}
 
 -- ---- a word that is another, and no span's
-word_not : (c x s y : ℕ) → (s ≡ 81 → ⊥) → (s ≡ 82 → ⊥) → (x ≡ y → ⊥) → alike_c (c, x) (s, y) ≡ false
-word_not c x s y n m ne = go (eqb c s) refl
+word_not : (c x s y : ℕ) → (eqb s 81 || eqb s 82) ≡ false → (x ≡ y → ⊥) → alike_c (c, x) (s, y) ≡ false
+word_not c x s y n ne = go (eqb c s) refl
   where
     go : (b : Bool) → eqb c s ≡ b → alike_c (c, x) (s, y) ≡ false
-    go true e = let q = eqb-true c s e in sym (alike_upto c x s y q ne (λ z. n (sym q ∙ z))) ∙ ne_eqb c 82 (λ z. m (sym q ∙ z))
+    go true e = sym (alike_span c x s y (eqb-true c s e) ne) ∙ n
     go false e = sym (alike-class c x s y (eqb-false c s e))
 
 -- ---- past expressions that have another word in place i
@@ -40,13 +40,13 @@ module _ (stacks : List (List ℕ)) (e₁ made i s y k : ℕ) where
     pub hop_last : made ≤ j → Hops stacks e₁ made i s y k made
     hop_last h = let l = H.low in let t = H.high in record { low = omega arith; high = le_refl made; not = λ x l u c v. H.not x l (omega arith) c v }
 
-    module _ (n : s ≡ 81 → ⊥) (m : s ≡ 82 → ⊥) (a : ℕ) (ha : a ≡ cell stacks 2 (e₁ + j)) (ne : a + i < 16384 → cell stacks 0 (a + i) ≡ y → ⊥) where
+    module _ (n : (eqb s 81 || eqb s 82) ≡ false) (a : ℕ) (ha : a ≡ cell stacks 2 (e₁ + j)) (ne : a + i < 16384 → cell stacks 0 (a + i) ≡ y → ⊥) where
       hop_at : (x : ℕ) → k ≤ x → x < j + 1 → (b : Bool) → ltb x j ≡ b → (c : ℕ) → cell stacks 2 (e₁ + x) + i < 16384 → alike_c (c, cell stacks 0 (cell stacks 2 (e₁ + x) + i)) (s, y) ≡ false
       hop_at x l u true e c v = H.not x l (ltb-true x j e) c v
       hop_at x l u false e c v =
           let z : x ≡ j = let w = ltb-false x j e in omega arith in
           let h : a + i < 16384 = rw (z, ← ha) at v in
-          rw (z, ← ha) (word_not c (cell stacks 0 (a + i)) s y n m (ne h))
+          rw (z, ← ha) (word_not c (cell stacks 0 (a + i)) s y n (ne h))
 
       pub hop_next : j < made → Hops stacks e₁ made i s y k (j + 1)
       hop_next h = record { low = let l = H.low in omega arith; high = omega arith; not = λ x l u c v. hop_at x l u (ltb x j) refl c v }

@@ -10,9 +10,8 @@ ghost use Rattle.model.specs.References.{target, ref_of, through, first_word, un
 ghost use Rattle.model.specs.Between.{between};
 ghost use Rattle.model.specs.Bodies.{append_expr as pushE, intern_expr};
 ghost use Rattle.theory_records.specs.RecordLaws.{All};
-ghost use Rattle.intake_initialisers.specs.Marks.{finds};
 ghost use Rattle.theory_passes.specs.Light.{still};
-ghost use Rattle.derive_state.specs.Refers.{target_of, target_bytes};
+ghost use Rattle.derive_state.specs.Refers.{target_of};
 ghost use Rattle.derive_state.specs.Source.{mod_of};
 ghost use Rattle.derive_state.specs.Held.{row, carried_by};
 ghost use Rattle.derive_lookup.specs.Bearing.{Bearing};
@@ -22,17 +21,15 @@ ghost use Rattle.function_builder.specs.Stacks.{went_by, went_of, seats_of, made
 ghost use Rattle.function_builder.specs.Makes.{Lays, Wrote, Hops, Pushed};
 ghost use Rattle.derive_state.specs.Sizes.{going, told};
 
-use base_classes::{EXPR, SPAN, UPTO};
 use base_views::Image;
-use base_words::Tags;
 use derive_lookup::known;
 use derive_state::{
-    Derived, ExprMap, Full, Maps, Places, ShaderSource, Sizes, StackRows, Target, moved, number_of,
-    target_of,
+    Derived, ExprMap, Full, Maps, Places, ShaderSource, Sizes, StackRows, Target, alike_cell,
+    is_span, moved, number_of, target_of, undefined_at,
 };
 
 // The rows of the stacks: words and classes of expressions, where each of them starts, and words of declarations, bodies and names. Numbers, since C lends the
-// stacks as one array of four rows.
+// stacks as one array of four rows; four borrows of it were tried: no pattern takes apart an array behind `&mut`, and `split_first_mut` gives an Option for each row.
 pub const WORDS: usize = 0;
 
 pub const CLASSES: usize = 1;
@@ -52,35 +49,23 @@ pub struct ShaderFunction<'a, 'p> {
     pub base: usize,
 }
 
-// Where each expression record starts, from `at` on, and where the last one ends.
-pub fn index(tags: &Tags, at: usize, end: usize, places: &mut Places)
-    requires { (length tags.now ≡ 16384) × (at ≤ end) × (end ≤ 16384) × (length (finds at (slice at end tags.now)) ≤ 1025) }
-    ensures { places.new ≡ sets places.old 0 (finds at (slice at end tags.now)) }
-{
-    intake_initialisers::places(tags, at, end, places)
-}
-
 // A word carried through the maps, of a class that names no function.
 pub fn by_maps(maps: &Maps, exprmap: &ExprMap, s: u8, w: u32) -> u32
     requires fact { target_of (target s) ≡ 7 → ⊥ }
     requires by_index { (ws : List ℕ) × All (FitN ws 1024) (ref_of (target s) w []) }
     ensures { result ≡ through (went_by maps.now exprmap.now) s w }
 {
-    if s < EXPR {
-        return derive_state::carried(maps, s, w);
-    }
-    // an expression, as all that such words refer to
     match target_of(s) {
-        Target::Nothing | Target::Function => w,
-        Target::Record(_) => number_of(exprmap[w as usize] as u32),
-        Target::Optional(_) if w == 0 => 0,
-        Target::Optional(_) => exprmap[(w - 1) as usize] as u32,
+        Target::Own => number_of(exprmap[w as usize] as u32),
+        Target::OptionalOwn if w == 0 => 0,
+        Target::OptionalOwn => exprmap[(w - 1) as usize] as u32,
+        _ => derive_state::carried(maps, s, w),
     }
 }
 
 // A word carried through the maps, or to the function of its name.
 pub fn carried(image: Image, derived: &Derived, exprmap: &ExprMap, s: u8, w: u32) -> u32
-    requires ground { Ground image.words.now image.tags.now target_bytes image.n }
+    requires ground { Ground image.words.now image.tags.now image.n }
     requires bearing { Bearing derived.now.log.now derived.now.logtags.now derived.now.starts.now (going derived.now.sizes) }
     requires all { All (FitN image.words.now 1024) (ref_of (target s) w []) }
     ensures { result ≡ through (went_of image.entry.words.now image.entry.n derived.now.log.now derived.now.logtags.now derived.now.starts.now derived.now.maps.now (going derived.now.sizes) exprmap.now) s w }
@@ -91,27 +76,18 @@ pub fn carried(image: Image, derived: &Derived, exprmap: &ExprMap, s: u8, w: u32
     by_maps(derived.maps, exprmap, s, w)
 }
 
-// Whether the span last met is undefined, once the word w of the class s is read; the words from i on follow it. As derive_state's of that name, but for what
-// carries a word: one for both would take that as a closure, and each of the two would be as long as now.
-fn undefined_at(
-    image: Image,
-    derived: &Derived,
-    exprmap: &ExprMap,
-    s: u8,
-    w: u32,
-    i: usize,
-    end: usize,
-    u: bool,
-) -> bool
-    requires ground { Ground image.words.now image.tags.now target_bytes image.n }
+// What word i of the source becomes; 0 at the end.
+fn carried_or_end(image: Image, derived: &Derived, exprmap: &ExprMap, i: usize, end: usize) -> u32
+    requires ground { Ground image.words.now image.tags.now image.n }
     requires bearing { Bearing derived.now.log.now derived.now.logtags.now derived.now.starts.now (going derived.now.sizes) }
     requires legible { Legible image.words.now image.tags.now 1024 i end }
-    ensures { result ≡ undefined_at (target s) w (first_word (carried_by (went_of image.entry.words.now image.entry.n derived.now.log.now derived.now.logtags.now derived.now.starts.now derived.now.maps.now (going derived.now.sizes) exprmap.now) image.entry.tags.now image.entry.words.now i end)) u }
+    ensures { result ≡ first_word (carried_by (went_of image.entry.words.now image.entry.n derived.now.log.now derived.now.logtags.now derived.now.starts.now derived.now.maps.now (going derived.now.sizes) exprmap.now) image.entry.tags.now image.entry.words.now i end) }
 {
-    if s != SPAN {
-        return u;
+    if i < end {
+        carried(image, derived, exprmap, image.tags[i], image.words[i])
+    } else {
+        0
     }
-    w == 0 && (end <= i || carried(image, derived, exprmap, image.tags[i], image.words[i]) == 0)
 }
 
 // Writes what the source's words from `at` to `end` become on the top of the stack of expressions.
@@ -123,20 +99,22 @@ pub fn write(
     at: usize,
     end: usize,
 )
-    requires ground { Ground source.image.words.now source.image.tags.now target_bytes source.image.n }
+    requires ground { Ground source.image.words.now source.image.tags.now source.image.n }
     requires bearing { Bearing derived.now.log.now derived.now.logtags.now derived.now.starts.now (going derived.now.sizes) }
     requires legible { Legible source.image.words.now source.image.tags.now 1024 at end }
     requires stacks { (Stacks stacks.old (going derived.now.sizes)) × (derived.now.sizes.exprtop + (end - at) ≤ 16384) }
     ensures { Wrote (shift (carried_by (went_of source.entry.image.words.now source.entry.image.n derived.now.log.now derived.now.logtags.now derived.now.starts.now derived.now.maps.now (going derived.now.sizes) exprmap.now) source.entry.image.tags.now source.entry.image.words.now at end) source.entry.offset false) derived.now.sizes.exprtop stacks.old stacks.new }
 {
     let mut u = false;
+    let mut w = carried_or_end(source.image, derived, exprmap, at, end);
     for j in at..end {
         let q = derived.sizes.exprtop as usize + (j - at);
         let s = source.image.tags[j];
-        let w = carried(source.image, derived, exprmap, s, source.image.words[j]);
-        u = undefined_at(source.image, derived, exprmap, s, w, j + 1, end, u);
+        let next = carried_or_end(source.image, derived, exprmap, j + 1, end);
+        u = undefined_at(s, w, next, u);
         stacks[WORDS][q] = moved(s, w, source.offset, u);
         stacks[CLASSES][q] = s as u32;
+        w = next;
     }
 }
 
@@ -148,7 +126,7 @@ pub fn append(
     stacks: &mut StackRows,
     e: usize,
 ) -> Result<Sizes, Full>
-    requires ground { Ground function.source.image.words.now function.source.image.tags.now target_bytes function.source.image.n }
+    requires ground { Ground function.source.image.words.now function.source.image.tags.now function.source.image.n }
     requires bearing { Bearing derived.now.log.now derived.now.logtags.now derived.now.starts.now (going derived.now.sizes) }
     requires expressions { Expressions function.source.image.words.now function.source.image.tags.now function.places.now function.count }
     requires e_lt_k { e < function.count }
@@ -172,14 +150,6 @@ pub fn append(
     })
 }
 
-// Whether the word x of the class a equals the word y of the class b; for words of spans only the classes are compared.
-fn alike_cell(a: u32, x: u32, b: u8, y: u32) -> bool
-    ensures { result ≡ alike_c (a, x) (b, y) }
-{
-    // Not that of derive_state: the rows of the stack, in the caller's fixed memory, have a class as u32, and nothing says that it is below 256.
-    a == b as u32 && (x == y || b == SPAN || b == UPTO)
-}
-
 // The first of the source's words, from `at` on, that does not become, ignoring spans, the word in its place of the expression on the stack from a to b, which
 // is as long.
 fn first_difference(
@@ -192,7 +162,7 @@ fn first_difference(
     a: usize,
     b: usize,
 ) -> Option<usize>
-    requires ground { Ground image.words.now image.tags.now target_bytes image.n }
+    requires ground { Ground image.words.now image.tags.now image.n }
     requires bearing { Bearing derived.now.log.now derived.now.logtags.now derived.now.starts.now (going derived.now.sizes) }
     requires legible { Legible image.words.now image.tags.now 1024 at end }
     requires stacks { (Stacks stacks.now (going derived.now.sizes)) × (a ≤ b) × (b ≤ 16384) × (b - a ≡ end - at) }
@@ -233,7 +203,7 @@ fn next_candidate(
     requires { (e1 + made ≤ 16384) × (i ≤ 16384) × (k < made) }
     ensures { MatchOption result (Hops stacks.now e1 made i s y k made) (λ j. (j < made) × Hops stacks.now e1 made i s y k j) }
 {
-    if s == SPAN || s == UPTO {
+    if is_span(s) {
         return Some(k);
     }
     for h in k..made {
@@ -256,7 +226,7 @@ fn find_equal(
     at: usize,
     end: usize,
 ) -> Option<usize>
-    requires ground { Ground image.words.now image.tags.now target_bytes image.n }
+    requires ground { Ground image.words.now image.tags.now image.n }
     requires bearing { Bearing derived.now.log.now derived.now.logtags.now derived.now.starts.now (going derived.now.sizes) }
     requires legible { Legible image.words.now image.tags.now 1024 at end }
     requires stacks { (Stacks stacks.now (going derived.now.sizes)) × (Rising (seats_of stacks.now e1 (going derived.now.sizes)) e1 derived.now.sizes.exprtop) × (length (seats_of stacks.now e1 (going derived.now.sizes)) ≡ derived.now.sizes.made) × (at < end) }
@@ -291,7 +261,7 @@ pub fn merge(
     stacks: &mut StackRows,
     e: usize,
 ) -> Result<Sizes, Full>
-    requires ground { Ground function.source.image.words.now function.source.image.tags.now target_bytes function.source.image.n }
+    requires ground { Ground function.source.image.words.now function.source.image.tags.now function.source.image.n }
     requires bearing { Bearing derived.now.log.now derived.now.logtags.now derived.now.starts.now (going derived.now.sizes) }
     requires expressions { Expressions function.source.image.words.now function.source.image.tags.now function.places.now function.count }
     requires e_lt_k { e < function.count }

@@ -17,17 +17,13 @@ ghost use Rattle.function_references.specs.Cuts.{Expressions, exprs_of};
 ghost use Rattle.function_builder.specs.Stacks.{Under};
 ghost use Rattle.function_builder.specs.Makes.{Builds};
 ghost use Rattle.function_words.specs.Runs.{unites, Declares, Passes};
-ghost use Rattle.derive_state.specs.Refers.{target_bytes};
 ghost use Rattle.derive_state.specs.Sizes.{going};
 
-use base_classes::EXPR;
-use base_views::EXPRESSIONS;
-use derive_imports::refers_to;
 use derive_state::{DerivedMut, ExprMap, Full, ShaderSource, Sizes, StackRows};
 use function_builder::{ShaderFunction, merge};
-use function_outside::import_record;
-use function_runs::{copy_mapped_run, span_undefined};
-use function_words::{advance, put_word};
+use function_outside::{Referent, import_record, referent_of};
+use function_runs::{Reach, copy_mapped_run, span_undefined};
+use function_words::put_word;
 
 // Imports expression e of an initialiser, with its operands, where it is not mapped.
 fn import_initialiser(
@@ -38,7 +34,7 @@ fn import_initialiser(
     ends: Sizes,
     e: usize,
 ) -> Result<Sizes, Full>
-    requires ground { Ground function.source.image.words.now function.source.image.tags.now target_bytes function.source.image.n }
+    requires ground { Ground function.source.image.words.now function.source.image.tags.now function.source.image.n }
     requires expressions { Expressions function.source.image.words.now function.source.image.tags.now function.places.now function.count }
     requires e_lt_k { e < function.count }
     requires valid_arrays { Valid derived.old ends }
@@ -52,27 +48,22 @@ fn import_initialiser(
     let mut got = ends;
     let at = function.places[e] as usize;
     for j in at..end {
-        let s = function.source.image.tags[j];
-        if let Some(r) = refers_to(s, function.source.image.words[j]) {
-            if s < EXPR {
-                got = import_record(function.source, derived, got, r)?;
-            } else if r.table == EXPRESSIONS {
-                got = import_initialiser(
-                    function,
-                    derived,
-                    exprmap,
-                    stacks,
-                    got,
-                    r.number as usize,
-                )?;
+        match referent_of(
+            function.source.image.tags[j],
+            function.source.image.words[j],
+        ) {
+            None => {}
+            Some(Referent::Record(r)) => got = import_record(function.source, derived, got, r)?,
+            Some(Referent::Own(x)) => {
+                got = import_initialiser(function, derived, exprmap, stacks, got, x as usize)?;
             }
         }
     }
     merge(function, &derived.view(got), exprmap, stacks, e)
 }
 
-// Imports what word i of declarations refers to: an expression of an initialiser, or a record of a table.
-// It stands beside function_passes::import_body_word, which appends the expression and does not merge it, for the reason given there.
+// Imports what word i of declarations refers to: an expression of an initialiser, or a record of a table. As `import_body_word` of function_passes, but for what
+// imports the expression: one for both would take that as a closure that writes all that they write, and be longer than the two.
 fn import_declaration_word(
     function: ShaderFunction,
     derived: &mut DerivedMut,
@@ -81,24 +72,23 @@ fn import_declaration_word(
     ends: Sizes,
     i: usize,
 ) -> Result<Sizes, Full>
-    requires ground { Ground function.source.image.words.now function.source.image.tags.now target_bytes function.source.image.n }
+    requires ground { Ground function.source.image.words.now function.source.image.tags.now function.source.image.n }
     requires expressions { Expressions function.source.image.words.now function.source.image.tags.now function.places.now function.count }
     requires i_bound { (i < 16384) × (All (FitN function.source.image.words.now function.count) (ref_of (target (get_or function.source.image.tags.now i 0)) (get_or function.source.image.words.now i 0) [])) }
     requires valid_arrays { Valid derived.old ends }
     requires under { Under function.count exprmap.old stacks.old function.base (going ends) }
     ensures { Builds function.entry.source.image.words.now function.entry.count (arriveE function.entry.source.offset (mod_of function.entry.source.image.words.now function.entry.source.image.n) still (unites function.entry.source.offset function.entry.source.image.words.now function.entry.source.image.tags.now function.entry.source.image.n function.entry.places.now function.entry.count) (unites function.entry.source.offset function.entry.source.image.words.now function.entry.source.image.tags.now function.entry.source.image.n function.entry.places.now function.entry.count) (target (get_or function.entry.source.image.tags.now i 0)) (get_or function.entry.source.image.words.now i 0)) derived.old exprmap.old stacks.old function.entry.base ends result derived.new exprmap.new stacks.new }
 {
-    let s = function.source.image.tags[i];
-    let Some(r) = refers_to(s, function.source.image.words[i]) else {
-        return Ok(ends);
-    };
-    if s < EXPR {
-        return import_record(function.source, derived, ends, r);
+    match referent_of(
+        function.source.image.tags[i],
+        function.source.image.words[i],
+    ) {
+        None => Ok(ends),
+        Some(Referent::Record(r)) => import_record(function.source, derived, ends, r),
+        Some(Referent::Own(e)) => {
+            import_initialiser(function, derived, exprmap, stacks, ends, e as usize)
+        }
     }
-    if r.table != EXPRESSIONS {
-        return Ok(ends);
-    }
-    import_initialiser(function, derived, exprmap, stacks, ends, r.number as usize)
 }
 
 // Imports and writes the declarations, from `at` to `end`.
@@ -111,40 +101,36 @@ pub fn declare(
     at: usize,
     end: usize,
 ) -> Result<Sizes, Full>
-    requires ground { Ground function.source.image.words.now function.source.image.tags.now target_bytes function.source.image.n }
+    requires ground { Ground function.source.image.words.now function.source.image.tags.now function.source.image.n }
     requires expressions { Expressions function.source.image.words.now function.source.image.tags.now function.places.now function.count }
     requires declares { Declares function.source.image.words.now function.source.image.tags.now function.count at end }
     requires valid_arrays { Valid derived.old ends }
     requires under { Under function.count exprmap.old stacks.old function.base (going ends) }
     ensures { Passes function.entry.source.image.words.now function.entry.count (after function.entry.source.offset (mod_of function.entry.source.image.words.now function.entry.source.image.n) still (unites function.entry.source.offset function.entry.source.image.words.now function.entry.source.image.tags.now function.entry.source.image.n function.entry.places.now function.entry.count) (unites function.entry.source.offset function.entry.source.image.words.now function.entry.source.image.tags.now function.entry.source.image.n function.entry.places.now function.entry.count) (between function.entry.source.image.tags.now function.entry.source.image.words.now (at) end)) (λ (m : Builder). map word (written function.entry.source.offset (mod_of function.entry.source.image.words.now function.entry.source.image.n) still (unites function.entry.source.offset function.entry.source.image.words.now function.entry.source.image.tags.now function.entry.source.image.n function.entry.places.now function.entry.count) (unites function.entry.source.offset function.entry.source.image.words.now function.entry.source.image.tags.now function.entry.source.image.n function.entry.places.now function.entry.count) (between function.entry.source.image.tags.now function.entry.source.image.words.now (at) end) false m)) derived.old exprmap.old stacks.old function.entry.base ends result derived.new exprmap.new stacks.new }
 {
-    let mut e = ends;
-    let mut i = at;
-    let mut u = false;
+    let mut r = Reach {
+        at,
+        sizes: ends,
+        undefined: false,
+    };
     // no counted loop: a turn passes a run of words, as long as copy_mapped_run finds it, and one word more
-    while i < end {
-        let r = copy_mapped_run(
+    while r.at < end {
+        r = copy_mapped_run(function.source, derived.maps, exprmap, stacks, r, end);
+        if r.at == end {
+            return Ok(r.sizes);
+        }
+        let j = r.at;
+        r.at += 1;
+        r.undefined = span_undefined(function.source.image, j, end, r.undefined);
+        let e = import_declaration_word(function, derived, exprmap, stacks, r.sizes, j)?;
+        r.sizes = put_word(
             function.source,
-            derived.maps,
+            &derived.view(e),
             exprmap,
             stacks,
-            e.made as usize,
-            e.bodytop as usize,
-            i,
-            end,
-            u,
-        );
-        e = advance(e, r.at - i);
-        i = r.at;
-        u = r.undefined;
-        if i == end {
-            return Ok(e);
-        }
-        let j = i;
-        i += 1;
-        u = span_undefined(function.source.image, j, end, u);
-        e = import_declaration_word(function, derived, exprmap, stacks, e, j)?;
-        e = put_word(function.source, &derived.view(e), exprmap, stacks, j, u)?;
+            j,
+            r.undefined,
+        )?;
     }
-    Ok(e)
+    Ok(r.sizes)
 }

@@ -52,7 +52,7 @@ pub record Turn (words : List ℕ) (n o : ℕ) (special log₀ logtags₀ : List
   pub below : Same e₀.loglen log₀ logtags₀ log logtags
   pub marks_stay : Marks buckets₀ buckets
 
-module _ (n o : ℕ) (words tags targets log₀ logtags₀ : List ℕ) (starts₀ maps₀ : List (List ℕ)) (buckets₀ special : List ℕ) (e₀ : Sizes) (L : ValidSession true n o words tags targets log₀ logtags₀ starts₀ maps₀ buckets₀ special e₀) where
+module _ (n o : ℕ) (words tags log₀ logtags₀ : List ℕ) (starts₀ maps₀ : List (List ℕ)) (buckets₀ special : List ℕ) (e₀ : Sizes) (L : ValidSession true n o words tags log₀ logtags₀ starts₀ maps₀ buckets₀ special e₀) where
   abbrev m : Module
   m = mod_of words n
 
@@ -68,7 +68,7 @@ module _ (n o : ℕ) (words tags targets log₀ logtags₀ : List ℕ) (starts�
   -- ---- the first
   pub turn-first : meets_ring (callees_of (mod_of words n).entries) (mod_of words n) s₀ ≡ false → (stacks : List (List ℕ)) → Stacks stacks e₀ → Turn words n o special log₀ logtags₀ starts₀ maps₀ buckets₀ e₀ log₀ logtags₀ starts₀ maps₀ buckets₀ stacks e₀ 0
   turn-first q stacks S = record {
-    made = rw (Sources.functions_are n o words tags targets log₀ logtags₀ starts₀ maps₀ buckets₀ special e₀ L) (entries_are x s₀ (Sources.at n o words tags targets log₀ logtags₀ starts₀ maps₀ buckets₀ special e₀ L).set q).0;
+    made = rw (Sources.functions_are n o words tags log₀ logtags₀ starts₀ maps₀ buckets₀ special e₀ L) (entries_are x s₀ (Sources.at n o words tags log₀ logtags₀ starts₀ maps₀ buckets₀ special e₀ L).set q).0;
     sound = entries_sound (mod_of words n) (L.passes refl).numbers;
     state = refl;
     so_far = rw (none-held log₀ logtags₀ starts₀ e₀.counts L.no_entries).0;

@@ -31,7 +31,7 @@ pub no_places : (tags : List ℕ) → length tags ≡ 16384 → ((length tags �
 unfolding finds
 no_places tags h = ((h, omega arith, omega arith, omega arith), refl)
 
-module _ (n o : ℕ) (words tags targets log logtags : List ℕ) (starts maps : List (List ℕ)) (buckets special : List ℕ) (e : Sizes) (L : ValidSession true n o words tags targets log logtags starts maps buckets special e) where
+module _ (n o : ℕ) (words tags log logtags : List ℕ) (starts maps : List (List ℕ)) (buckets special : List ℕ) (e : Sizes) (L : ValidSession true n o words tags log logtags starts maps buckets special e) where
   abbrev m : Module
   m = mod_of words n
 
@@ -45,11 +45,10 @@ module _ (n o : ℕ) (words tags targets log logtags : List ℕ) (starts maps : 
   unfolding session_of
   at = at_source L.reached x refl
 
-  pub ground : Ground words tags targets n
+  pub ground : Ground words tags n
   ground = record {
     source = record { taped = L.taped refl; three = (L.passes refl).numbers; four = (L.passes refl).lowers };
     names = (L.passes refl).names;
-    targets_are = L.targets_are;
   }
 
   pub scope : in_scope (mod_of words n) ≡ true

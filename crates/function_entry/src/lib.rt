@@ -13,15 +13,14 @@ ghost use Rattle.function_builder.specs.Stacks.{Stacks};
 ghost use Rattle.model.specs.Session.{meets_ring, callees_of};
 ghost use Rattle.derive_session.specs.Valid.{ValidSession};
 ghost use Rattle.function_entry.specs.Entered.{NestedE, EntersAll, Enters};
-ghost use Rattle.derive_state.specs.Refers.{target_bytes};
 ghost use Rattle.derive_state.specs.Sizes.{going, told};
 
-use base_views::{ENTRIES, FUNCTIONS, count, expressions_at};
+use base_views::{ENTRIES, FUNCTIONS, MOST_ENTRIES, count, expressions_at};
 use derive_state::{DerivedMut, Full, ShaderSource, Sizes, Special, StackRows};
 use function_builder::write;
 use function_localize::localize;
 use function_outside::import_outside;
-use function_record::append_record;
+use function_record::{FunctionPlace, append_record};
 
 // Imports entry point j, with room for `room` functions in progress.
 pub fn enter(
@@ -32,16 +31,15 @@ pub fn enter(
     j: usize,
     room: usize,
 ) -> Result<Sizes, Full>
-    requires ground { Ground source.image.words.now source.image.tags.now target_bytes source.image.n }
+    requires ground { Ground source.image.words.now source.image.tags.now source.image.n }
     requires j_bound { (j < count_at 7 source.image.words.now) × (in_scope (mod_of source.image.words.now source.image.n) ≡ true) }
     requires nested_e { NestedE source.image.words.now source.image.n derived.old.log.now derived.old.logtags.now derived.old.starts.now derived.old.maps.now (going ends) source.offset room (entry (mod_of source.image.words.now source.image.n) j) }
     requires stacks { Stacks stacks.old (going ends) }
     requires valid_arrays { Valid derived.old ends }
     ensures { Enters source.entry.image.words.now source.entry.image.n source.entry.offset (Ready source.entry.offset (mod_of source.entry.image.words.now source.entry.image.n) room) (follow_s source.entry.offset (mod_of source.entry.image.words.now source.entry.image.n) room) (entry (mod_of source.entry.image.words.now source.entry.image.n) j) derived.old stacks.old ends result derived.new stacks.new }
 {
-    let at = source.image.record_at(ENTRIES, j);
+    let (at, end) = source.image.record(ENTRIES, j);
     let s = source.image.entry_function(j);
-    let end = source.image.record_end(ENTRIES, j);
     let mut places = [0u16; 1025];
     let got = localize(source, derived, stacks, &mut places, ends, s, end, room)?;
     let led = import_outside(source, derived, got, at, s)?;
@@ -51,8 +49,12 @@ pub fn enter(
     }
     let exprmap = [0u16; 1024];
     write(source, &derived.view(led), &exprmap, stacks, at, s);
-    let exprs = expressions_at(source.image.words, s);
-    let body = source.image.body_at(s);
+    let place = FunctionPlace {
+        start: s,
+        exprs: expressions_at(source.image.words, s),
+        body: source.image.body_at(s),
+        end,
+    };
     append_record(
         source.image.tags,
         derived.log,
@@ -61,13 +63,10 @@ pub fn enter(
         stacks,
         led,
         ends,
-        s,
-        exprs,
-        body,
-        end,
+        place,
         ENTRIES,
         s - at,
-        16,
+        MOST_ENTRIES,
     )
 }
 
@@ -79,7 +78,7 @@ pub fn enter_all(
     stacks: &mut StackRows,
     ends: Sizes,
 ) -> Result<Sizes, Full>
-    requires valid_session { ValidSession true source.image.n source.offset source.image.words.now source.image.tags.now target_bytes derived.old.log.now derived.old.logtags.now derived.old.starts.now derived.old.maps.now derived.old.buckets.now special.now (going ends) }
+    requires valid_session { ValidSession true source.image.n source.offset source.image.words.now source.image.tags.now derived.old.log.now derived.old.logtags.now derived.old.starts.now derived.old.maps.now derived.old.buckets.now special.now (going ends) }
     requires stacks { Stacks stacks.old (going ends) }
     requires ends_value { meets_ring (callees_of (mod_of source.image.words.now source.image.n).entries) (mod_of source.image.words.now source.image.n) (st_of source.image.words.now derived.old.log.now derived.old.logtags.now derived.old.starts.now derived.old.maps.now special.now (going ends)) ≡ false }
     ensures { EntersAll source.entry.image.words.now source.entry.image.n source.entry.offset special.now derived.old ends result derived.new stacks.new }

@@ -91,9 +91,6 @@ module _ {words tags : List ℕ} {n k o b at end : ℕ} {h : ℕ → Builder →
     stay = makes_none words k e₁ log logtags starts maps buckets exprmap stacks e along-kept along_under inv.going (λ m. m) (λ special. refl)
 
     module _ (less : i < end) where
-      pub along_in : i < 16384
-      along_in = let a = inv.left.stretch.small in omega arith
-
       -- one cell more is passed
       abbrev pub Turned : Sizes → List ℕ → List ℕ → List (List ℕ) → List (List ℕ) → List ℕ → List ℕ → List (List ℕ) → Type 0
       Turned r log' logtags' starts' maps' buckets' exprmap' stacks' = Makes words k (along o M still h h (between tags words at (suc i))) log₀ logtags₀ starts₀ maps₀ buckets₀ exprmap₀ stacks₀ e₁ e₀ r log' logtags' starts' maps' buckets' exprmap' stacks'

@@ -12,17 +12,13 @@ ghost use Rattle.function_references.specs.Fits.{Ground};
 ghost use Rattle.function_references.specs.Cuts.{exprs_of, Expressions};
 ghost use Rattle.function_builder.specs.Stacks.{Under};
 ghost use Rattle.function_builder.specs.Makes.{Builds};
-ghost use Rattle.derive_state.specs.Refers.{target_bytes};
 ghost use Rattle.derive_state.specs.Sizes.{going};
 
-use base_classes::EXPR;
 use base_kinds::stands;
-use base_views::EXPRESSIONS;
 use base_words::Words;
-use derive_imports::refers_to;
 use derive_state::{DerivedMut, ExprMap, Full, Places, ShaderSource, Sizes, StackRows};
 use function_builder::{ShaderFunction, append};
-use function_outside::{import_outside, import_record};
+use function_outside::{Referent, import_outside, import_record, referent_of};
 
 // Imports expression e of k, which is not mapped, with what it refers to outside the function.
 fn import_unmapped(
@@ -33,7 +29,7 @@ fn import_unmapped(
     ends: Sizes,
     e: usize,
 ) -> Result<Sizes, Full>
-    requires ground { Ground function.source.image.words.now function.source.image.tags.now target_bytes function.source.image.n }
+    requires ground { Ground function.source.image.words.now function.source.image.tags.now function.source.image.n }
     requires expressions { Expressions function.source.image.words.now function.source.image.tags.now function.places.now function.count }
     requires e_lt_k { e < function.count }
     requires valid_arrays { Valid derived.old ends }
@@ -58,7 +54,7 @@ pub fn import_operand(
     ends: Sizes,
     e: usize,
 ) -> Result<Sizes, Full>
-    requires ground { Ground function.source.image.words.now function.source.image.tags.now target_bytes function.source.image.n }
+    requires ground { Ground function.source.image.words.now function.source.image.tags.now function.source.image.n }
     requires expressions { Expressions function.source.image.words.now function.source.image.tags.now function.places.now function.count }
     requires e_lt_k { e < function.count }
     requires valid_arrays { Valid derived.old ends }
@@ -89,7 +85,7 @@ pub fn import_standing(
     ends: Sizes,
     e: usize,
 ) -> Result<Sizes, Full>
-    requires ground { Ground function.source.image.words.now function.source.image.tags.now target_bytes function.source.image.n }
+    requires ground { Ground function.source.image.words.now function.source.image.tags.now function.source.image.n }
     requires expressions { Expressions function.source.image.words.now function.source.image.tags.now function.places.now function.count }
     requires e_lt_k { e < function.count }
     requires valid_arrays { Valid derived.old ends }
@@ -103,12 +99,14 @@ pub fn import_standing(
     let mut got = ends;
     let at = function.places[e] as usize;
     for j in at..end {
-        let s = function.source.image.tags[j];
-        if let Some(r) = refers_to(s, function.source.image.words[j]) {
-            if s < EXPR {
-                got = import_record(function.source, derived, got, r)?;
-            } else if r.table == EXPRESSIONS {
-                let x = r.number as usize;
+        match referent_of(
+            function.source.image.tags[j],
+            function.source.image.words[j],
+        ) {
+            None => {}
+            Some(Referent::Record(r)) => got = import_record(function.source, derived, got, r)?,
+            Some(Referent::Own(n)) => {
+                let x = n as usize;
                 if is_unmapped_standing(function.source.image.words, function.places, exprmap, x) {
                     got = import_unmapped(function, derived, exprmap, stacks, got, x)?;
                 }

@@ -33,7 +33,7 @@ use Rattle.function_localize.proofs.Closings.{closing_is, close_low, close-pairs
 use Rattle.function_localize.proofs.Appends.{append_full, append-close}
 use Rattle.function_localize.proofs.Few.{made_few}
 
-module _ {words tags targets : List ℕ} {n : ℕ} (G : Ground words tags targets n) {f : ℕ} (hf : f < count_at 6 words) {s end : ℕ} (hs : s ≡ record_at 6 f words) (he : end ≡ record_end 6 f words) (six : in_scope (mod_of words n) ≡ true) where
+module _ {words tags : List ℕ} {n : ℕ} (G : Ground words tags n) {f : ℕ} (hf : f < count_at 6 words) {s end : ℕ} (hs : s ≡ record_at 6 f words) (he : end ≡ record_end 6 f words) (six : in_scope (mod_of words n) ≡ true) where
   -- the function
   own : Part words tags n s end (function_at (mod_of words n) f)
   own = rw (hs, he) (function-part G.source six f hf)

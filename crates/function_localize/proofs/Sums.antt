@@ -15,13 +15,6 @@ place-next h = omega arith
 pub place_low : {i : ℕ} → i ≤ 1024 → i < 1025
 place_low h = omega arith
 
--- how far a run goes
-pub run_on : (i r count : ℕ) → r ≡ i + count → i ≤ r
-run_on i r count e = omega arith
-
-pub run_room : (i r count b : ℕ) → r ≡ i + count → b + count ≤ 16384 → b + (r - i) ≤ 16384
-run_room i r count b e h = omega arith
-
 -- the words that are left get fewer
 pub fewer_word : (end i r count : ℕ) → i < end → r ≡ i + count → end - (r + 1) < end - i
 fewer_word end i r count t e = omega arith

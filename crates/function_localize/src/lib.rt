@@ -17,21 +17,20 @@ ghost use Rattle.function_references.specs.Fits.{Ground};
 ghost use Rattle.function_parts.specs.Part.{Part, Indexed};
 ghost use Rattle.function_builder.specs.Stacks.{Stacks};
 ghost use Rattle.function_localize.specs.Localized.{Nested, NestedF, NestedAt, Localizes, ImportsFunction};
-ghost use Rattle.derive_state.specs.Refers.{target_bytes};
 ghost use Rattle.derive_state.specs.Sizes.{going, told};
 
 use base_classes::CALLEE;
-use base_views::{FUNCTIONS, Image, expressions_at};
+use base_views::{FUNCTIONS, Image, MOST_FUNCTIONS, expressions_at};
 use base_words::Tags;
 use derive_lookup::known;
 use derive_state::{DerivedMut, Full, Places, ShaderSource, Sizes, StackRows};
-use function_builder::{ShaderFunction, index};
+use function_builder::ShaderFunction;
 use function_declarations::declare;
 use function_names::{import_names, keep_names};
 use function_passes::import_word;
-use function_record::append_record;
-use function_runs::{copy_mapped_run, span_undefined};
-use function_words::{advance, put_word};
+use function_record::{FunctionPlace, append_record};
+use function_runs::{Reach, copy_mapped_run, span_undefined};
+use function_words::put_word;
 
 // The sizes with no expressions made yet.
 fn no_expressions(e: Sizes) -> Sizes
@@ -46,7 +45,7 @@ fn index_expressions(tags: &Tags, at: usize, end: usize, places: &mut Places)
     ensures { places.new ≡ sets (replicate 1025 0) 0 (finds at (slice at end tags.now)) }
 {
     *places = [0; 1025];
-    index(tags, at, end, places);
+    intake_initialisers::places(tags, at, end, places);
 }
 
 // Where the parts of a function are: its expressions, after their count; its named expressions; its body.
@@ -88,7 +87,7 @@ pub fn localize(
     end: usize,
     room: usize,
 ) -> Result<Sizes, Full>
-    requires ground { Ground source.image.words.now source.image.tags.now target_bytes source.image.n }
+    requires ground { Ground source.image.words.now source.image.tags.now source.image.n }
     requires part { Part source.image.words.now source.image.tags.now source.image.n s end (function_of (between source.image.tags.now source.image.words.now s end)) }
     requires nested { Nested source.image.words.now source.image.n derived.old.log.now derived.old.logtags.now derived.old.starts.now derived.old.maps.now (going ends) source.offset room (function_of (between source.image.tags.now source.image.words.now s end)) }
     requires stacks { Stacks stacks.old (going ends) }
@@ -101,7 +100,7 @@ pub fn localize(
     let exprs = at.exprs;
     let k = at.count;
     let named = at.named;
-    let mut e = declare(
+    let declared = declare(
         ShaderFunction {
             source,
             places,
@@ -115,43 +114,33 @@ pub fn localize(
         s,
         exprs,
     )?;
-    let mut i = at.body;
-    let mut u = false;
+    let mut r = Reach {
+        at: at.body,
+        sizes: declared,
+        undefined: false,
+    };
     // a turn steps by the run that it finds
-    while i < end {
-        let r = copy_mapped_run(
-            source,
-            derived.maps,
-            &exprmap,
-            stacks,
-            e.made as usize,
-            e.bodytop as usize,
-            i,
-            end,
-            u,
-        );
-        e = advance(e, r.at - i);
-        i = r.at;
-        u = r.undefined;
-        if i < end {
-            let j = i;
-            i += 1;
-            u = span_undefined(source.image, j, end, u);
+    while r.at < end {
+        r = copy_mapped_run(source, derived.maps, &exprmap, stacks, r, end);
+        if r.at < end {
+            let j = r.at;
+            r.at += 1;
+            r.undefined = span_undefined(source.image, j, end, r.undefined);
             if source.image.tags[j] == CALLEE {
-                e = follow(
+                let e = follow(
                     source,
                     derived,
                     stacks,
                     places,
-                    e,
+                    r.sizes,
                     source.image.words[j] as usize,
                     room,
                     exprs + 1,
                     end,
                 )?;
-                e = put_word(source, &derived.view(e), &exprmap, stacks, j, u)?;
+                r.sizes = put_word(source, &derived.view(e), &exprmap, stacks, j, r.undefined)?;
             } else {
-                e = import_word(
+                r.sizes = import_word(
                     ShaderFunction {
                         source,
                         places,
@@ -161,14 +150,15 @@ pub fn localize(
                     derived,
                     &mut exprmap,
                     stacks,
-                    e,
+                    r.sizes,
                     j,
                     end,
-                    u,
+                    r.undefined,
                 )?;
             }
         }
     }
+    let e = r.sizes;
     let b = e.bodytop as usize;
     let kept = keep_names(source.image.words, &exprmap, places, stacks, e, k, named)?;
     import_names(source, derived, stacks, kept, b)
@@ -185,18 +175,21 @@ pub fn append(
     f: usize,
     room: usize,
 ) -> Result<Sizes, Full>
-    requires ground { Ground source.image.words.now source.image.tags.now target_bytes source.image.n }
+    requires ground { Ground source.image.words.now source.image.tags.now source.image.n }
     requires f_bound { f < count_at 6 source.image.words.now }
     requires nested_f { NestedF source.image.words.now source.image.n derived.old.log.now derived.old.logtags.now derived.old.starts.now derived.old.maps.now (going ends) source.offset room (function (mod_of source.image.words.now source.image.n) f) }
     requires stacks { Stacks stacks.old (going ends) }
     requires valid_arrays { Valid derived.old ends }
     ensures { ImportsFunction source.entry.image.words.now (ReadyF source.entry.offset (mod_of source.entry.image.words.now source.entry.image.n) (Ready source.entry.offset (mod_of source.entry.image.words.now source.entry.image.n) room) (follow_s source.entry.offset (mod_of source.entry.image.words.now source.entry.image.n) room) (function (mod_of source.entry.image.words.now source.entry.image.n) f)) (append_s source.entry.offset (mod_of source.entry.image.words.now source.entry.image.n) (follow_s source.entry.offset (mod_of source.entry.image.words.now source.entry.image.n) room) f) derived.old stacks.old ends result derived.new stacks.new }
 {
-    let s = source.image.record_at(FUNCTIONS, f);
-    let end = source.image.record_end(FUNCTIONS, f);
+    let (s, end) = source.image.record(FUNCTIONS, f);
     let got = localize(source, derived, stacks, places, ends, s, end, room)?;
-    let exprs = expressions_at(source.image.words, s);
-    let body = source.image.body_at(s);
+    let place = FunctionPlace {
+        start: s,
+        exprs: expressions_at(source.image.words, s),
+        body: source.image.body_at(s),
+        end,
+    };
     append_record(
         source.image.tags,
         derived.log,
@@ -205,13 +198,10 @@ pub fn append(
         stacks,
         got,
         ends,
-        s,
-        exprs,
-        body,
-        end,
+        place,
         FUNCTIONS,
         0,
-        256,
+        MOST_FUNCTIONS,
     )
 }
 
@@ -229,7 +219,7 @@ pub fn follow(
     at: usize,
     end: usize,
 ) -> Result<Sizes, Full>
-    requires ground { Ground source.image.words.now source.image.tags.now target_bytes source.image.n }
+    requires ground { Ground source.image.words.now source.image.tags.now source.image.n }
     requires f_bound { f < count_at 6 source.image.words.now }
     requires nested_at { NestedAt source.image.words.now source.image.n derived.old.log.now derived.old.logtags.now derived.old.starts.now derived.old.maps.now (going ends) source.offset room f }
     requires stacks { Stacks stacks.old (going ends) }

@@ -8,7 +8,6 @@ ghost use Rattle.derive_state.specs.Held.{row, Valid};
 ghost use Rattle.function_references.specs.Fits.{Ground};
 ghost use Rattle.function_builder.specs.Stacks.{Stacks};
 ghost use Rattle.function_names.specs.Named.{named_records, KeepNamesEnsures, ImportsNames};
-ghost use Rattle.derive_state.specs.Refers.{target_bytes};
 ghost use Rattle.derive_state.specs.Sizes.{going, told};
 
 use base_views::NAMES;
@@ -67,7 +66,7 @@ pub fn import_names(
     ends: Sizes,
     b: usize,
 ) -> Result<Sizes, Full>
-    requires ground { Ground source.image.words.now source.image.tags.now target_bytes source.image.n }
+    requires ground { Ground source.image.words.now source.image.tags.now source.image.n }
     requires b_le_bodytop { b ≤ ends.bodytop }
     requires by_index { (i : ℕ) → b + 2 * i < ends.bodytop → (suc (b + 2 * i) < ends.bodytop) × (get_or (row stacks.old 3) (suc (b + 2 * i)) 0 ≤ count_at 0 source.image.words.now) }
     requires stacks { Stacks stacks.old (going ends) }

@@ -1,13 +1,14 @@
 -- One cell of a function: what its class may refer to, what it imports, and that its number is in range. Classes below EXPR refer to tables and functions, those from there on to the function's own expressions.
-use mathlib.Core.Path.{◌≡◌, refl, ◌∙◌}
+use mathlib.Core.Path.{◌≡◌, refl, sym, ap, subst, ◌∙◌}
 use mathlib.Core.Bool.{Bool, true, false}
 use mathlib.Core.List.{List, [], ◌∷◌}
+use Rattle.std.specs.Prelude.{Option, None, Some}
 use Prim.Native.Nat.{ℕ, zero, suc, ◌+◌, ◌-◌, ◌≤◌, ◌<◌}
 use native.Mathlib.Omega.{arith}
 use lib.Dec.{ltb}
 use lib.ListN.{get_or, take, drop}
 use lib.Seq.{get_or-take, get_or-drop}
-use borrow.Author.Tests.{ltb-false, lt-ltb, le-ltb}
+use borrow.Author.Tests.{ltb-true, ltb-false, lt-ltb, le-ltb}
 use Rattle.model.specs.Table.{SPAN, EXPR}
 use Rattle.model.specs.Module.{Module, count_at}
 use Rattle.model.specs.Tables.{Tab, code_t, Tables, tables}
@@ -19,10 +20,14 @@ use Rattle.theory_bodies.specs.Context.{outer}
 use Rattle.theory_passes.specs.Pass.{arrive}
 use Rattle.theory_passes.specs.Operands.{outward1}
 use Rattle.theory_passes.specs.Light.{still}
-use Rattle.derive_state.specs.Refers.{code_p, target_of}
+use Rattle.derive_state.specs.Refers.{code_p, target_of, unspanned, tab_of}
 use Rattle.derive_state.specs.Source.{if_some, refers_to, less, number_of}
-use Rattle.derive_state.proofs.State.{tab_code, code_low}
+use Rattle.derive_state.proofs.State.{tab_code, code_tab, code_low}
+use Rattle.derive_imports.specs.declared.Reference.{Reference}
 use Rattle.function_references.specs.Fits.{Fits, FitN, record_of}
+use Rattle.function_outside.specs.declared.Referent.{Referent}
+use Rattle.function_outside.specs.declared.Referent.TheVariants as code
+use Rattle.function_outside.specs.Referents.{at_place, referent_of}
 
 -- ---- the two halves of the classes
 -- what a class below EXPR may refer to
@@ -111,6 +116,99 @@ module _ (o : ℕ) (T : Tables) (s : Derived) where
   unfolding record_of
   record_none u n h = rw (le-ltb u 6 h, record_of)
 
+-- ---- what the code finds
+-- spans are as copied words there
+referent_unspanned : (g : Target) (w : ℕ) → referent_of (unspanned g) w ≡ referent_of g w
+unfolding unspanned referent_of
+referent_unspanned copied w = refl
+referent_unspanned start w = refl
+referent_unspanned upto w = refl
+referent_unspanned (ref p) w = refl
+referent_unspanned (opt p) w = refl
+
+module _ (s w : ℕ) where
+  referent_meant : {m : Target} → m ≡ unspanned (target s) → referent_of m w ≡ referent_of (target s) w
+  referent_meant is = rw is (referent_unspanned (target s) w)
+
+  pub none_meant : copied ≡ unspanned (target s) → None ≡ referent_of (target s) w
+  unfolding referent_of
+  none_meant is = referent_meant is
+
+  pub ref_meant : {p : Place} → ref p ≡ unspanned (target s) → at_place p w ≡ referent_of (target s) w
+  unfolding referent_of
+  ref_meant is = referent_meant is
+
+  opt_meant : {p : Place} → opt p ≡ unspanned (target s) → (v : ℕ) → w ≡ v → referent_of (opt p) v ≡ referent_of (target s) w
+  opt_meant {p} is v e = ap (referent_of (opt p)) (sym e) ∙ referent_meant is
+
+  pub zero_meant : {p : Place} → opt p ≡ unspanned (target s) → w ≡ 0 → None ≡ referent_of (target s) w
+  unfolding referent_of
+  zero_meant is none = opt_meant is 0 none
+
+  pub some_meant : {p : Place} → opt p ≡ unspanned (target s) → (w ≡ 0 → ⊥) → at_place p (w - 1) ≡ referent_of (target s) w
+  unfolding referent_of
+  some_meant is some = opt_meant is (suc (w - 1)) (omega arith)
+
+pub place_table : (t : ℕ) → t < 6 → (n : ℕ) → Some (code.Record (record { table = t; number = n })) ≡ at_place (table (tab_of t)) n
+unfolding at_place
+place_table t low n = rw (code_tab t low)
+
+-- in the lower half of the classes, and in the upper one
+abbrev Low : Target → ℕ → Option Referent → Type 0
+Low g w None = 6 ≤ refers_to g w
+Low g w (Some (code.Record r)) = (r.table ≡ refers_to g w) × (r.number ≡ number_of g w) × (r.table < 6)
+Low g w (Some (code.Own e)) = ⊥
+
+abbrev High : Target → ℕ → Option Referent → Type 0
+High g w None = 6 ≤ refers_to g w
+High g w (Some (code.Record r)) = ⊥
+High g w (Some (code.Own e)) = Names g w e
+
+low_found : {g : Target} (w : ℕ) → Away g → Low g w (referent_of g w)
+unfolding referent_of at_place refers_to target_of code_p
+low_found w away_copied = omega arith
+low_found w away_start = omega arith
+low_found w away_upto = omega arith
+low_found w (away_ref t) = (sym (refers_ref t w).0, sym (refers_ref t w).1, code_low t)
+low_found zero (away_opt t) = omega (arith, refers_zero t)
+low_found (suc n) (away_opt t) = (sym (refers_opt t n).0, sym (refers_opt t n).1, code_low t)
+low_found w away_function = omega arith
+
+high_found : {g : Target} (w : ℕ) → Inner g → High g w (referent_of g w)
+unfolding referent_of at_place refers_to target_of code_p if_some
+high_found w inner_copied = omega arith
+high_found w inner_ref = names_ref
+high_found zero inner_opt = omega arith
+high_found (suc n) inner_opt = names_opt
+
+module _ (s w : ℕ) where
+  pub record_found : {x : Referent} {r : Reference} → x ≡ code.Record r → Some x ≡ referent_of (target s) w → (s < EXPR) × (r.table ≡ refers_to (target s) w) × (r.number ≡ number_of (target s) w) × (r.table < 6)
+  record_found {x} {r} is found = go (ltb s EXPR) refl
+    where
+      e : Some (code.Record r) ≡ referent_of (target s) w
+      e = rw is at found
+
+      go : (b : Bool) → ltb s EXPR ≡ b → (s < EXPR) × (r.table ≡ refers_to (target s) w) × (r.number ≡ number_of (target s) w) × (r.table < 6)
+      go true q = let l = ltb-true s EXPR q in let f = subst (Low (target s) w) (sym e) (low_found w (away s l)) in (l, f.0, f.1, f.2)
+      go false q = absurd (subst (High (target s) w) (sym e) (high_found w (inner s (ltb-false s EXPR q))))
+
+  pub own_found : {x : Referent} {n : ℕ} → x ≡ code.Own n → Some x ≡ referent_of (target s) w → (EXPR ≤ s) × (5 ≡ refers_to (target s) w) × (n ≡ number_of (target s) w)
+  own_found {x} {n} is found = go (ltb s EXPR) refl
+    where
+      e : Some (code.Own n) ≡ referent_of (target s) w
+      e = rw is at found
+
+      go : (b : Bool) → ltb s EXPR ≡ b → (EXPR ≤ s) × (5 ≡ refers_to (target s) w) × (n ≡ number_of (target s) w)
+      go true q = absurd (subst (Low (target s) w) (sym e) (low_found w (away s (ltb-true s EXPR q))))
+      go false q = let l = ltb-false s EXPR q in let f = named_refers (subst (High (target s) w) (sym e) (high_found w (inner s l))) in (l, sym f.0, sym f.1)
+
+  pub nothing_found : None ≡ referent_of (target s) w → 6 ≤ refers_to (target s) w
+  nothing_found e = go (ltb s EXPR) refl
+    where
+      go : (b : Bool) → ltb s EXPR ≡ b → 6 ≤ refers_to (target s) w
+      go true q = subst (Low (target s) w) (sym e) (low_found w (away s (ltb-true s EXPR q)))
+      go false q = subst (High (target s) w) (sym e) (high_found w (inner s (ltb-false s EXPR q)))
+
 -- ---- what a cell imports
 module _ (o : ℕ) (M : Module) (follow : ℕ → Derived → Derived) where
   -- a record of a table, where functions that are met import nothing
@@ -178,6 +276,14 @@ module _ (o : ℕ) (M : Module) (follow : ℕ → Derived → Derived) where
 module _ (o : ℕ) (M : Module) where
   pub outward-still : (c w : ℕ) (s : Derived) → c < EXPR → outward1 o M still (target c) w s ≡ record_of o (tables M) (refers_to (target c) w) (number_of (target c) w) s
   outward-still c w s h = away_record o M still w s (away c h) (λ e n. refl)
+
+  -- what imports nothing
+  pub outward_none : (c w : ℕ) → 6 ≤ refers_to (target c) w → (s : Derived) → outward1 o M still (target c) w s ≡ s
+  outward_none c w h s = go (ltb c EXPR) refl
+    where
+      go : (b : Bool) → ltb c EXPR ≡ b → outward1 o M still (target c) w s ≡ s
+      go true e = outward-still c w s (ltb-true c EXPR e) ∙ sym (record_none o (tables M) s (refers_to (target c) w) (number_of (target c) w) h)
+      go false e = outward_inner o M still c w s (ltb-false c EXPR e)
 
   pub arrive-still : (p q : ℕ → Builder → Builder) (c w : ℕ) (m : Builder) → c < EXPR → arrive o M still p q (target c) w m ≡ bring (record_of o (tables M) (refers_to (target c) w) (number_of (target c) w)) m
   unfolding bring

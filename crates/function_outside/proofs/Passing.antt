@@ -28,7 +28,7 @@ use Rattle.derive_state.proofs.State.{same_refl, same_then, marks_refl, marks_th
 use Rattle.derive_imports.proofs.Growth.{Grow, stay, then, over_grow, grow_T}
 use Rattle.derive_imports.proofs.Turns.{beside_refl, beside_then}
 use Rattle.function_references.specs.Fits.{FitN, Legible, record_of}
-use Rattle.function_outside.proofs.Cells.{outward_inner, outward-still, fit-table}
+use Rattle.function_outside.proofs.Cells.{outward-still, fit-table}
 
 -- ---- the references outside only add to a state
 module _ (o : ℕ) (M : Module) where
@@ -104,9 +104,6 @@ module _ (words tags : List ℕ) (n o at end : ℕ) (log₀ logtags₀ : List �
         (ap size_r (table_stays log₀ logtags₀ log logtags starts₀ maps₀ buckets₀ buckets e₀ K₀ inv.below inv.kept.log_long inv.kept.tags_long inv.marks_stay 7 (omega arith)))
 
     module _ (less : i < end) where
-      pub pass_in : i < 16384
-      pass_in = let a = inv.left.stretch.small in omega arith
-
       cut : (special : List ℕ) (v : Derived) → v ≡ outward1 o M still (target (get_or tags i 0)) (get_or words i 0) (S special) → outward o M still (between tags words (suc i) end) v ≡ outward o M still (between tags words at end) (S₀ special)
       unfolding outward
       cut special v hv =
@@ -114,9 +111,9 @@ module _ (words tags : List ℕ) (n o at end : ℕ) (log₀ logtags₀ : List �
           ∙ ap (λ (cs : Cells). outward o M still cs (S special)) (sym (between_next tags words i end less inv.left.stretch.in_tags inv.left.stretch.in_words))
           ∙ inv.same special
 
-      -- a class that refers to nothing outside
-      pub pass_skip : (s : ℕ) → s ≡ get_or tags i 0 → EXPR ≤ s → Passing words tags n o at end log₀ logtags₀ starts₀ maps₀ buckets₀ e₀ log logtags starts maps buckets e (i + 1)
-      pass_skip s hs h = rw (add-one i) (record {
+      -- a word that imports nothing
+      pub pass_skip : ((s : Derived) → outward1 o M still (target (get_or tags i 0)) (get_or words i 0) s ≡ s) → Passing words tags n o at end log₀ logtags₀ starts₀ maps₀ buckets₀ e₀ log logtags starts maps buckets e (i + 1)
+      pass_skip idle = rw (add-one i) (record {
         left = legible_next inv.left less;
         going = inv.going;
         kept = inv.kept;
@@ -124,7 +121,7 @@ module _ (words tags : List ℕ) (n o at end : ℕ) (log₀ logtags₀ : List �
         more = inv.more;
         below = inv.below;
         marks_stay = inv.marks_stay;
-        same = λ special. cut special (S special) (sym (outward_inner o M still (get_or tags i 0) (get_or words i 0) (S special) (rw hs at h)));
+        same = λ special. cut special (S special) (sym (idle (S special)));
       })
 
       -- a reference outside

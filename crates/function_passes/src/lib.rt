@@ -19,22 +19,18 @@ ghost use Rattle.function_builder.specs.Stacks.{Under};
 ghost use Rattle.function_builder.specs.Makes.{Lays, Builds};
 ghost use Rattle.function_words.specs.Runs.{needs, glances, Bodied, Drawn, Passes};
 ghost use Rattle.function_passes.specs.Compared.{compared};
-ghost use Rattle.derive_state.specs.Refers.{target_bytes};
 ghost use Rattle.derive_state.specs.Sizes.{going, told};
 
-use base_classes::{ATOMIC, EXPR, FROM, OPT_EXPR, STMT_KIND, TO};
-use base_views::{EXPRESSIONS, Image};
-use derive_imports::refers_to;
+use base_classes::{ATOMIC, FROM, OPT_EXPR, STMT_KIND, TO};
+use base_views::Image;
 use derive_state::{Derived, DerivedMut, ExprMap, Full, ShaderSource, Sizes, StackRows};
 use function_builder::{ShaderFunction, append, push};
 use function_expressions::{import_operand, import_standing};
-use function_outside::import_record;
+use function_outside::{Referent, import_record, referent_of};
 use function_runs::atomic;
 use function_words::put_word;
 
 // Imports what word i of a body refers to: an expression of the function, or a record of a table.
-// import_declaration_word does so of declarations, and merges the expression. One function for both would be no plainer: beside its seven parameters it would
-// take another that tells them apart, and its contract would say both.
 fn import_body_word(
     function: ShaderFunction,
     derived: &mut DerivedMut,
@@ -43,24 +39,23 @@ fn import_body_word(
     ends: Sizes,
     i: usize,
 ) -> Result<Sizes, Full>
-    requires ground { Ground function.source.image.words.now function.source.image.tags.now target_bytes function.source.image.n }
+    requires ground { Ground function.source.image.words.now function.source.image.tags.now function.source.image.n }
     requires expressions { Expressions function.source.image.words.now function.source.image.tags.now function.places.now function.count }
     requires i_bound { (i < 16384) × (All (FitN function.source.image.words.now function.count) (ref_of (target (get_or function.source.image.tags.now i 0)) (get_or function.source.image.words.now i 0) [])) }
     requires valid_arrays { Valid derived.old ends }
     requires under { Under function.count exprmap.old stacks.old function.base (going ends) }
     ensures { Builds function.entry.source.image.words.now function.entry.count (arriveE function.entry.source.offset (mod_of function.entry.source.image.words.now function.entry.source.image.n) still (needs function.entry.source.offset function.entry.source.image.words.now function.entry.source.image.tags.now function.entry.source.image.n function.entry.places.now function.entry.count) (glances function.entry.source.offset function.entry.source.image.words.now function.entry.source.image.tags.now function.entry.source.image.n function.entry.places.now function.entry.count) (target (get_or function.entry.source.image.tags.now i 0)) (get_or function.entry.source.image.words.now i 0)) derived.old exprmap.old stacks.old function.entry.base ends result derived.new exprmap.new stacks.new }
 {
-    let s = function.source.image.tags[i];
-    let Some(r) = refers_to(s, function.source.image.words[i]) else {
-        return Ok(ends);
-    };
-    if s < EXPR {
-        return import_record(function.source, derived, ends, r);
+    match referent_of(
+        function.source.image.tags[i],
+        function.source.image.words[i],
+    ) {
+        None => Ok(ends),
+        Some(Referent::Record(r)) => import_record(function.source, derived, ends, r),
+        Some(Referent::Own(e)) => {
+            import_operand(function, derived, exprmap, stacks, ends, e as usize)
+        }
     }
-    if r.table != EXPRESSIONS {
-        return Ok(ends);
-    }
-    import_operand(function, derived, exprmap, stacks, ends, r.number as usize)
 }
 
 // An Emit's first pass over the expressions from a to b.
@@ -73,7 +68,7 @@ fn first_pass(
     a: usize,
     b: usize,
 ) -> Result<Sizes, Full>
-    requires ground { Ground function.source.image.words.now function.source.image.tags.now target_bytes function.source.image.n }
+    requires ground { Ground function.source.image.words.now function.source.image.tags.now function.source.image.n }
     requires expressions { Expressions function.source.image.words.now function.source.image.tags.now function.places.now function.count }
     requires b_le_k { b ≤ function.count }
     requires valid_arrays { Valid derived.old ends }
@@ -96,7 +91,7 @@ fn second_pass(
     a: usize,
     b: usize,
 ) -> Result<Sizes, Full>
-    requires ground { Ground function.source.image.words.now function.source.image.tags.now target_bytes function.source.image.n }
+    requires ground { Ground function.source.image.words.now function.source.image.tags.now function.source.image.n }
     requires expressions { Expressions function.source.image.words.now function.source.image.tags.now function.places.now function.count }
     requires b_le_k { b ≤ function.count }
     requires by_index { (buckets : List ℕ) × ValidArrays derived.now.log.now derived.now.logtags.now derived.now.starts.now derived.now.maps.now buckets (going derived.now.sizes) }
@@ -132,7 +127,7 @@ fn emit(
     a: usize,
     b: usize,
 ) -> Result<Sizes, Full>
-    requires ground { Ground function.source.image.words.now function.source.image.tags.now target_bytes function.source.image.n }
+    requires ground { Ground function.source.image.words.now function.source.image.tags.now function.source.image.n }
     requires expressions { Expressions function.source.image.words.now function.source.image.tags.now function.places.now function.count }
     requires b_le_k { b ≤ function.count }
     requires valid_arrays { Valid derived.old ends }
@@ -172,7 +167,7 @@ fn import_compare(
     i: usize,
     end: usize,
 ) -> Result<Sizes, Full>
-    requires ground { Ground function.source.image.words.now function.source.image.tags.now target_bytes function.source.image.n }
+    requires ground { Ground function.source.image.words.now function.source.image.tags.now function.source.image.n }
     requires expressions { Expressions function.source.image.words.now function.source.image.tags.now function.places.now function.count }
     requires legible { (Legible function.source.image.words.now function.source.image.tags.now function.count i end) × (i < end) }
     requires valid_arrays { Valid derived.old ends }
@@ -199,7 +194,7 @@ pub fn import_word(
     end: usize,
     u: bool,
 ) -> Result<Sizes, Full>
-    requires ground { Ground function.source.image.words.now function.source.image.tags.now target_bytes function.source.image.n }
+    requires ground { Ground function.source.image.words.now function.source.image.tags.now function.source.image.n }
     requires expressions { Expressions function.source.image.words.now function.source.image.tags.now function.places.now function.count }
     requires bodied { (Bodied function.source.image.words.now function.source.image.tags.now function.count i end) × (i < end) }
     requires valid_arrays { Valid derived.old ends }

@@ -14,7 +14,7 @@ ghost use Rattle.function_record.specs.Closed.{named_classes, closing, AppendRec
 
 use base_classes::{EXPRESSIONS, NAME, NAMED, NAMED_EXPR};
 use base_words::Tags;
-use derive_state::{Full, Log, LogTags, Sizes, StackRows, Starts, words_left};
+use derive_state::{Full, Log, LogTags, Sizes, StackRows, Starts};
 use function_builder::{BODY, CLASSES, WORDS};
 
 // Copies `count` words of the row t of the stacks, from a on, to the log from p on.
@@ -110,9 +110,18 @@ fn copy_names(
     name_classes(logtags, p, count / 2);
 }
 
+// Where a function is in the source: its declarations from `start` to `exprs`, its body from `body` to `end`.
+#[derive(Clone, Copy)]
+pub struct FunctionPlace {
+    pub start: usize,
+    pub exprs: usize,
+    pub body: usize,
+    pub end: usize,
+}
+
 // Appends the function on the stacks, above `before`, as a record of table t, which has at most `limit`, after the `head` words above its expressions. Its
-// declarations have the classes of the source's words from s to `exprs`, its body those from `body` to `end`. It takes the three arrays that it writes, not the
-// module: that maps and buckets stay needs no clause so.
+// declarations and its body have the classes that the source has in their place. It takes the three arrays that it writes, not the module: that maps and buckets
+// stay needs no clause so.
 pub fn append_record(
     tags: &Tags,
     log: &mut Log,
@@ -121,24 +130,21 @@ pub fn append_record(
     stacks: &StackRows,
     ends: Sizes,
     before: Sizes,
-    s: usize,
-    exprs: usize,
-    body: usize,
-    end: usize,
+    place: FunctionPlace,
     t: usize,
     head: usize,
     limit: usize,
 ) -> Result<Sizes, Full>
-    requires s_le_exprs { (s ≤ exprs) × (exprs ≤ body) × (body ≤ end) × (end ≤ 16384) × (length tags.now ≡ 16384) }
+    requires s_le_exprs { (place.start ≤ place.exprs) × (place.exprs ≤ place.body) × (place.body ≤ place.end) × (place.end ≤ 16384) × (length tags.now ≡ 16384) }
     requires t_bound { (t < 8) × (limit ≤ 512) × (get_or ends.counts t 0 ≤ limit) × (ends.exprtop + head ≤ 16384) × (ends.made ≤ 16384) }
-    requires stacks { (Stacks stacks.now (going ends)) × (before.exprtop ≤ ends.exprtop) × (before.bodytop + ((exprs - s) + (end - body)) ≤ ends.bodytop) }
-    requires body_len { length (pairs_in (slice (before.bodytop + ((exprs - s) + (end - body))) ends.bodytop (row stacks.now 3))) * 2 + (before.bodytop + ((exprs - s) + (end - body))) ≡ ends.bodytop }
+    requires stacks { (Stacks stacks.now (going ends)) × (before.exprtop ≤ ends.exprtop) × (before.bodytop + ((place.exprs - place.start) + (place.end - place.body)) ≤ ends.bodytop) }
+    requires body_len { length (pairs_in (slice (before.bodytop + ((place.exprs - place.start) + (place.end - place.body))) ends.bodytop (row stacks.now 3))) * 2 + (before.bodytop + ((place.exprs - place.start) + (place.end - place.body))) ≡ ends.bodytop }
     requires by_index { (i : ℕ) → before.exprtop ≤ i → i < ends.exprtop + head → get_or (row stacks.now 1) i 0 < 256 }
     requires loglen_bound { (23 + 2 * ends.pairs + ends.loglen ≤ 16384) × (length log.old ≡ 16384) × (length logtags.old ≡ 16384) × (length starts.old ≡ 8) × (length (row starts.old t) ≡ 512) × (length ends.counts ≡ 8) }
-    ensures { AppendRecordEnsures (between (row stacks.now 1) (row stacks.now 0) ends.exprtop (ends.exprtop + head) ++ closing tags.now stacks.now (going before) (going ends) s exprs body end) limit t (going before) (going ends) log.old logtags.old starts.old (told result) log.new logtags.new starts.new }
+    ensures { AppendRecordEnsures (between (row stacks.now 1) (row stacks.now 0) ends.exprtop (ends.exprtop + head) ++ closing tags.now stacks.now (going before) (going ends) place.start place.exprs place.body place.end) limit t (going before) (going ends) log.old logtags.old starts.old (told result) log.new logtags.new starts.new }
 {
-    let front = exprs - s;
-    let tail = end - body;
+    let front = place.exprs - place.start;
+    let tail = place.end - place.body;
     let exprtop = ends.exprtop as usize;
     let e = before.exprtop as usize;
     let b = before.bodytop as usize;
@@ -146,17 +152,14 @@ pub fn append_record(
     let names = ends.bodytop as usize - b - front - tail;
     let size = head + front + 1 + made + 1 + names + tail;
     let count = ends.counts[t] as usize;
-    if count == limit {
-        return Err(Full);
-    }
-    if words_left(ends) < 1 + size {
+    if count == limit || ends.words_left() < 1 + size {
         return Err(Full);
     }
     let loglen = ends.loglen as usize;
     let p = loglen + 1 + head;
     log[loglen] = size as u32;
     copy_expressions(stacks, exprtop, head, log, logtags, loglen + 1);
-    copy_carried(stacks, tags, b, s, front, log, logtags, p);
+    copy_carried(stacks, tags, b, place.start, front, log, logtags, p);
     log[p + front] = ends.made as u32;
     logtags[p + front] = EXPRESSIONS;
     copy_expressions(stacks, e, made, log, logtags, p + front + 1);
@@ -168,7 +171,7 @@ pub fn append_record(
         stacks,
         tags,
         b + front,
-        body,
+        place.body,
         tail,
         log,
         logtags,

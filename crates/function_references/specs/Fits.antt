@@ -7,7 +7,7 @@ use Rattle.model.specs.Tables.{code_t, Tables}
 use Rattle.model.specs.References.{Place, table, own, function, Node, refs}
 use Rattle.model.specs.Imports.{Derived, import_t}
 use Rattle.theory_records.specs.RecordLaws.{All}
-use Rattle.derive_state.specs.Refers.{target_bytes, tab_of}
+use Rattle.derive_state.specs.Refers.{tab_of}
 use Rattle.derive_state.specs.Source.{mod_of, Source}
 
 -- a number that may be met in a function of k expressions: it is in its table, which has at most 512 records
@@ -20,10 +20,9 @@ abbrev pub FitN : List ℕ → ℕ → Node → Type 0
 FitN words k j = Fits words k j.place j.num
 
 -- a source that passed intake, and the table of what classes refer to; a clause and no ghost field, as `Source` is, which it has as a field
-pub record Ground (words tags targets : List ℕ) (n : ℕ) : Type 0 where
+pub record Ground (words tags : List ℕ) (n : ℕ) : Type 0 where
   pub source : Source words tags n
   pub names : named (mod_of words n) ≡ true
-  pub targets_are : targets ≡ target_bytes
 
 -- a stretch of a function of k expressions
 pub record Legible (words tags : List ℕ) (k at end : ℕ) : Type 0 where

@@ -4,7 +4,6 @@ use mathlib.Core.List.{List}
 use Prim.Native.Nat.{ℕ, suc, ◌+◌, ◌≤◌, ◌<◌}
 use native.Mathlib.Numerals.{add-one}
 use native.Mathlib.Omega.{arith}
-use lib.Dec.{eqb}
 use lib.ListN.{length, get_or}
 use Rattle.model.specs.Between.{between}
 use Rattle.model.specs.References.{first_word}
@@ -18,6 +17,3 @@ first_some tags words i end h t w = rw (add-one i, between_next tags words (suc 
 pub first-none : (tags words : List ℕ) (i end : ℕ) → end ≤ i + 1 → 0 ≡ first_word (between tags words (suc i) end)
 unfolding first_word
 first-none tags words i end h = rw (between_none tags words (suc i) end (omega arith))
-
-pub zero_first : (w next : ℕ) → 0 ≡ next → eqb w 0 ≡ eqb (w + next) 0
-zero_first w next z = let y : w + next ≡ w = omega arith in rw y

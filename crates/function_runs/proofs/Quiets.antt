@@ -1,5 +1,5 @@
 -- Words that import nothing, written one after another: each is one word of a pass, which leaves the builder as it is.
-use mathlib.Core.Path.{◌≡◌, refl, sym, ◌∙◌}
+use mathlib.Core.Path.{◌≡◌, refl, sym}
 use mathlib.Core.Bool.{Bool, true, false, not, false≢true}
 use mathlib.Core.List.{List, []}
 use Prim.Native.Nat.{ℕ, suc, ◌+◌, ◌≤◌, ◌<◌}
@@ -12,11 +12,12 @@ use Rattle.model.specs.Table.{EXPR, FROM, TO, STMT_KIND}
 use Rattle.model.specs.References.{Place, Target, targets, target, ref_of, through, moved}
 use Rattle.theory_records.specs.RecordLaws.{All}
 use Rattle.theory_passes.specs.Pass.{atomic_kind}
-use Rattle.derive_state.specs.Refers.{target_of, code_of, InTable}
+use Rattle.derive_state.specs.Refers.{target_of, code_p, tab_of, means, InTable}
 use Rattle.derive_state.specs.declared.Target.{Target as Target'}
 use Rattle.derive_state.specs.declared.Target.TheVariants as code
 use Rattle.derive_state.specs.Source.{refers_to, number_of}
-use Rattle.derive_state.specs.Held.{put}
+use Rattle.derive_state.specs.Held.{cell, put}
+use Rattle.derive_state.proofs.State.{code_low}
 use Rattle.function_references.specs.Fits.{FitN, Legible}
 use Rattle.function_outside.proofs.Cells.{fit_own, fit-table}
 use Rattle.function_outside.proofs.Passing.{legible_next, legible_here}
@@ -54,18 +55,21 @@ pub quiet-nothing : (maps : List (List ℕ)) (exprmap : List ℕ) (s w : ℕ) �
 quiet-nothing maps exprmap s w e nf na = let r = refers_none (target s) w e in record { callee = λ q. omega arith; emit = nf; atomic = na; outside = λ l z. absurd (omega arith); inside = λ l z. absurd (omega arith) }
 
 -- nothing alone has the code 6
-pub code-some : (r : Target') → InTable r → (r ≡ code.Nothing → ⊥) → code_of r ≡ 6 → ⊥
+pub code-some : (r : Target') → InTable r → (r ≡ code.Nothing → ⊥) → target_of (means r) ≡ 6 → ⊥
+unfolding target_of code_p
 code-some code.Nothing l ne q = ne refl
-code-some code.Function l ne q = absurd (omega arith)
-code-some (code.Record t) l ne q = absurd (omega arith)
-code-some (code.Optional t) l ne q = absurd (omega arith)
+code-some code.Function l ne q = omega arith
+code-some (code.Record t) l ne q = omega (arith, code_low (tab_of t))
+code-some (code.Optional t) l ne q = omega arith
+code-some code.Own l ne q = omega arith
+code-some code.OptionalOwn l ne q = omega arith
 
-module _ (maps : List (List ℕ)) (exprmap : List ℕ) (s w : ℕ) (some : target_of (target s) ≡ 6 → ⊥) (callee : target_of (target s) ≡ 7 → ⊥) (t h : ℕ) (ht : t ≡ refers_to (target s) w) (hh : h ≡ number_of (target s) w) where
-  pub quiet_own : EXPR ≤ s → t ≡ 5 → (get_or exprmap h 0 ≡ 0 → ⊥) → Quiet maps exprmap s w
-  quiet_own l z ne = record { callee = callee; emit = λ e. some (emit_none s e); atomic = λ e. absurd (some (kind-none s e)); outside = λ x. absurd (omega arith); inside = λ x y. rw hh at ne }
+module _ (maps : List (List ℕ)) (exprmap : List ℕ) (s w : ℕ) (some : target_of (target s) ≡ 6 → ⊥) (callee : target_of (target s) ≡ 7 → ⊥) {t h : ℕ} (ht : t ≡ refers_to (target s) w) (hh : h ≡ number_of (target s) w) where
+  pub quiet_record : s < EXPR → (cell maps t h ≡ 0 → ⊥) → Quiet maps exprmap s w
+  quiet_record l ne = record { callee = callee; emit = λ e. some (emit_none s e); atomic = λ e. absurd (some (kind-none s e)); outside = λ x y. rw (ht, hh) at ne; inside = λ x. absurd (omega arith) }
 
-  pub quiet-absent : EXPR ≤ s → (t ≡ 5 → ⊥) → Quiet maps exprmap s w
-  quiet-absent l ne = record { callee = callee; emit = λ e. some (emit_none s e); atomic = λ e. absurd (some (kind-none s e)); outside = λ x. absurd (omega arith); inside = λ x y. absurd (ne (ht ∙ y)) }
+  pub quiet_own : EXPR ≤ s → (get_or exprmap h 0 ≡ 0 → ⊥) → Quiet maps exprmap s w
+  quiet_own l ne = record { callee = callee; emit = λ e. some (emit_none s e); atomic = λ e. absurd (some (kind-none s e)); outside = λ x. absurd (omega arith); inside = λ x y. rw hh at ne }
 
 -- a word that refers to no record
 pub quiet-beyond : (maps : List (List ℕ)) (exprmap : List ℕ) (s w : ℕ) → (target_of (target s) ≡ 6 → ⊥) → (target_of (target s) ≡ 7 → ⊥) → 6 ≤ refers_to (target s) w → Quiet maps exprmap s w

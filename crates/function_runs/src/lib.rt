@@ -2,7 +2,7 @@
 // such, so the sizes of the tables need not be passed along with each of them.
 #![tactic(auto)]
 
-ghost use Rattle.std.specs.Prelude.{◌≡◌, true, List, [], ℕ, suc, ◌≤◌, ◌<◌, ◌+◌, length, get_or};
+ghost use Rattle.std.specs.Prelude.{◌≡◌, true, List, [], ℕ, suc, ◌≤◌, ◌<◌, ◌+◌, ◌-◌, length, get_or};
 ghost use Rattle.model.specs.Table.{EXPR as EXPR'};
 ghost use Rattle.model.specs.Between.{between, Stretch};
 ghost use Rattle.model.specs.References.{target, ref_of, first_word, undefined_at};
@@ -14,24 +14,26 @@ ghost use Rattle.function_references.specs.Fits.{FitN, Legible};
 ghost use Rattle.function_builder.specs.Stacks.{went_by};
 ghost use Rattle.function_runs.specs.Copied.{Quiet, becomes, Ran};
 
-use base_classes::{EXPR, FROM, SPAN, STMT_KIND, TO};
-use base_views::{EXPRESSIONS, Image};
-use derive_imports::refers_to;
-use derive_state::{ExprMap, Maps, ShaderSource, StackRows, Target, moved, target_of};
+use base_classes::{FROM, SPAN, STMT_KIND, TO};
+use base_views::Image;
+use derive_state::{
+    ExprMap, Maps, ShaderSource, Sizes, StackRows, Target, moved, target_of, undefined_at,
+};
 use function_builder::{BODY, by_maps};
+use function_outside::{Referent, referent_of};
 
-// Whether the span last met is undefined, once word i is read.
+// Whether the span last met is undefined, once word i is read. The word after it is read only where a span starts, since this is called for every word.
 pub fn span_undefined(image: Image, i: usize, end: usize, u: bool) -> bool
     requires { (Stretch image.words.now image.tags.now i end) × (i < end) }
     ensures { result ≡ undefined_at (target (get_or image.entry.tags.now i 0)) (get_or image.entry.words.now i 0) (first_word (between image.entry.tags.now image.entry.words.now (suc i) end)) u }
 {
-    if image.tags[i] != SPAN {
-        return u;
-    }
-    if i + 1 < end {
-        return image.words[i] as usize + image.words[i + 1] as usize == 0;
-    }
-    image.words[i] == 0
+    let s = image.tags[i];
+    let next = if s == SPAN && i + 1 < end {
+        image.words[i + 1]
+    } else {
+        0
+    };
+    undefined_at(s, image.words[i], next, u)
 }
 
 // Whether a statement of the kind k is atomic.
@@ -50,10 +52,10 @@ fn is_mapped_word(maps: &Maps, exprmap: &ExprMap, s: u8, w: u32) -> bool
     match target_of(s) {
         Target::Nothing => s != FROM && (s != STMT_KIND || !atomic(w)),
         Target::Function => false,
-        _ => match refers_to(s, w) {
+        _ => match referent_of(s, w) {
             None => true,
-            Some(r) if s < EXPR => maps[r.table][r.number as usize] != 0,
-            Some(r) => r.table != EXPRESSIONS || exprmap[r.number as usize] != 0,
+            Some(Referent::Record(r)) => maps[r.table][r.number as usize] != 0,
+            Some(Referent::Own(e)) => exprmap[e as usize] != 0,
         },
     }
 }
@@ -70,44 +72,55 @@ fn carry(maps: &Maps, exprmap: &ExprMap, made: usize, offset: u32, s: u8, w: u32
     moved(s, by_maps(maps, exprmap, s, w), offset, u)
 }
 
-// How far words were written, and whether the span last met is then undefined.
+// How far the words of a function are passed, the sizes then, and whether the span last met is undefined.
 #[derive(Clone, Copy)]
 pub struct Reach {
     pub at: usize,
+    pub sizes: Sizes,
     pub undefined: bool,
 }
 
-// Copies the words from `at` on to the stack of words, from `bodytop` on, as long as they need no import and there is room.
+// As far as word `at`, where each word from `from` on is one more on the stack of words.
+fn as_far_as(from: Reach, at: usize, undefined: bool) -> Reach
+    requires { (from.at ≤ at) × (from.sizes.bodytop + (at - from.at) ≤ 16384) }
+    ensures { result ≡ record { at = at; sizes = record { loglen = from.sizes.loglen; counts = from.sizes.counts; pairs = from.sizes.pairs; exprtop = from.sizes.exprtop; bodytop = from.sizes.bodytop + (at - from.at); made = from.sizes.made }; undefined = undefined } }
+{
+    let bodytop = from.sizes.bodytop as usize + (at - from.at);
+    Reach {
+        at,
+        sizes: Sizes {
+            bodytop: bodytop as u16,
+            ..from.sizes
+        },
+        undefined,
+    }
+}
+
+// Copies the words from `from` on, up to `end`, to the stack of words, as long as they need no import and there is room.
 pub fn copy_mapped_run(
     source: ShaderSource,
     maps: &Maps,
     exprmap: &ExprMap,
     stacks: &mut StackRows,
-    made: usize,
-    bodytop: usize,
-    at: usize,
+    from: Reach,
     end: usize,
-    undefined: bool,
 ) -> Reach
-    requires legible { (Legible source.image.words.now source.image.tags.now 1024 at end) × (bodytop ≤ 16384) × (made ≤ 16384) }
-    ensures { Ran source.entry.image.words.now source.entry.image.tags.now maps.now exprmap.now (went_by maps.now exprmap.now) made source.entry.offset at end bodytop undefined stacks.old result.at result.undefined stacks.new }
+    requires legible { (Legible source.image.words.now source.image.tags.now 1024 from.at end) × (from.sizes.bodytop ≤ 16384) × (from.sizes.made ≤ 16384) }
+    ensures ran { Ran source.entry.image.words.now source.entry.image.tags.now maps.now exprmap.now (went_by maps.now exprmap.now) from.sizes.made source.entry.offset from.at end from.sizes.bodytop from.undefined stacks.old result.at result.undefined stacks.new }
+    ensures sizes { result.sizes ≡ record { loglen = from.sizes.loglen; counts = from.sizes.counts; pairs = from.sizes.pairs; exprtop = from.sizes.exprtop; bodytop = from.sizes.bodytop + (result.at - from.at); made = from.sizes.made } }
 {
-    let mut u = undefined;
-    for i in at..end {
-        let p = bodytop + (i - at);
+    let bodytop = from.sizes.bodytop as usize;
+    let made = from.sizes.made as usize;
+    let mut u = from.undefined;
+    for i in from.at..end {
+        let p = bodytop + (i - from.at);
         let s = source.image.tags[i];
         let w = source.image.words[i];
         if p == 16384 || !is_mapped_word(maps, exprmap, s, w) {
-            return Reach {
-                at: i,
-                undefined: u,
-            };
+            return as_far_as(from, i, u);
         }
         u = span_undefined(source.image, i, end, u);
         stacks[BODY][p] = carry(maps, exprmap, made, source.offset, s, w, u);
     }
-    Reach {
-        at: end,
-        undefined: u,
-    }
+    as_far_as(from, end, u)
 }

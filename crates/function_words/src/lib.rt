@@ -9,7 +9,6 @@ ghost use Rattle.derive_lookup.specs.Bearing.{Bearing};
 ghost use Rattle.function_references.specs.Fits.{FitN, Ground};
 ghost use Rattle.function_builder.specs.Stacks.{went_of, Stacks};
 ghost use Rattle.function_builder.specs.Makes.{Pushed};
-ghost use Rattle.derive_state.specs.Refers.{target_bytes};
 ghost use Rattle.derive_state.specs.Sizes.{going, told};
 
 use derive_state::{Derived, ExprMap, Full, ShaderSource, Sizes, StackRows, moved};
@@ -24,7 +23,7 @@ pub fn put_word(
     i: usize,
     u: bool,
 ) -> Result<Sizes, Full>
-    requires ground { Ground source.image.words.now source.image.tags.now target_bytes source.image.n }
+    requires ground { Ground source.image.words.now source.image.tags.now source.image.n }
     requires bearing { Bearing derived.now.log.now derived.now.logtags.now derived.now.starts.now (going derived.now.sizes) }
     requires i_bound { (i < 16384) × (All (FitN source.image.words.now 1024) (ref_of (target (get_or source.image.tags.now i 0)) (get_or source.image.words.now i 0) [])) }
     requires stacks { Stacks stacks.old (going derived.now.sizes) }
@@ -33,15 +32,4 @@ pub fn put_word(
     let s = source.image.tags[i];
     let w = carried(source.image, derived, exprmap, s, source.image.words[i]);
     push(stacks, derived.sizes, moved(s, w, source.offset, u))
-}
-
-// So many words more on the stack of words.
-pub fn advance(e: Sizes, n: usize) -> Sizes
-    requires { e.bodytop + n ≤ 16384 }
-    ensures { result ≡ record { loglen = e.loglen; counts = e.counts; pairs = e.pairs; exprtop = e.exprtop; bodytop = e.bodytop + n; made = e.made } }
-{
-    Sizes {
-        bodytop: (e.bodytop as usize + n) as u16,
-        ..e
-    }
 }

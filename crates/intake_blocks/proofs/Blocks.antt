@@ -69,7 +69,7 @@ unfoldable pub cut_b : Bool → XBlock → List ℕ → List ℕ → List ℕ
 cut_b true b ρ κ = κ
 cut_b false b ρ κ = cont_b b ρ
 
-pub record Goes (ws ts st ini u₀ : List ℕ) (count at fin keep : ℕ) (p : Place) (b rest : Block Range) (ρ δ u : List ℕ) (i : ℕ) (cut : Flow) : Type 0 where
+pub record Goes (ws ts st : List ℕ) (ini : List Bool) (u₀ : List ℕ) (count at fin keep : ℕ) (p : Place) (b rest : Block Range) (ρ δ u : List ℕ) (i : ℕ) (cut : Flow) : Type 0 where
   pub h : Bool
   pub cut_is : cut ≡ flow_of h
   pub ρ' : List ℕ
@@ -86,7 +86,7 @@ pub record Goes (ws ts st ini u₀ : List ℕ) (count at fin keep : ℕ) (p : Pl
   pub dones : done_b rest δ' ≡ done_b b δ
   pub holds : (h || holds_b (expand rest (marks ws ts st count ini))) ≡ holds_b (expand b (marks ws ts st count ini))
 
-pub record Walking (ws ts st ini u₀ : List ℕ) (count at fin keep : ℕ) (p : Place) (u : List ℕ) (i : ℕ) (cut : Flow) : Type 0 where
+pub record Walking (ws ts st : List ℕ) (ini : List Bool) (u₀ : List ℕ) (count at fin keep : ℕ) (p : Place) (u : List ℕ) (i : ℕ) (cut : Flow) : Type 0 where
   pub rest : Block Range
   pub runs : Runs ws ts i (flat_b rest)
   pub long : i + length (flat_b rest) ≡ fin
@@ -193,7 +193,7 @@ leave {count} {q} {k} {ρ} {δ} {u} q' u₁ ρ₁ δ₁ s h l p t = record {
     go e i g (inr n) = let m : 0 < get_or u e 0 = omega arith in omega (arith, p.same e m, s.outside e i g)
 
 -- ---- the loop over a block
-module _ (ws ts st ini u₀ : List ℕ) (count at fin keep : ℕ) (p : Place) (here : BlockHere ws ts st count at fin keep) where
+module _ (ws ts st : List ℕ) (ini : List Bool) (u₀ : List ℕ) (count at fin keep : ℕ) (p : Place) (here : BlockHere ws ts st count at fin keep) where
   abbrev B : Block Range
   B = block_of ws ts at fin
 

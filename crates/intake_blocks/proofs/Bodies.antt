@@ -46,7 +46,7 @@ unfolding told
 told_is true h r e = rw e refl
 told_is false h r e = rw e refl
 
-module _ (ws ts st ini u₀ u : List ℕ) (count at end : ℕ) (here : BlockHere ws ts st count at end end) (cl : Cleared u₀ count) (r : code.Option Flow) (got : FoundB ws ts st ini count at end end (place_of false false true) u₀ u r) where
+module _ (ws ts st : List ℕ) (ini : List Bool) (u₀ u : List ℕ) (count at end : ℕ) (here : BlockHere ws ts st count at end end) (cl : Cleared u₀ count) (r : code.Option Flow) (got : FoundB ws ts st ini count at end end (place_of false false true) u₀ u r) where
   finds : FindsB ws ts st ini count at end end (place_of false false true) u₀ u r (block_of ws ts at end) [] []
   finds = got.found [] [] (begins count at end u₀ here.later cl)
 

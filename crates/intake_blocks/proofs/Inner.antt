@@ -279,7 +279,7 @@ header ws ts at stop (stmt a b f) h =
     down (ok_stmt o) = o
 
 -- ---- the loop over the parts
-pub record Passes (ws ts st ini u₀ : List ℕ) (count at stop keep : ℕ) (p : Place) (s : Stmt Range) (rest : Parts) (ρ δ u : List ℕ) (i : ℕ) (cut : Flow) : Type 0 where
+pub record Passes (ws ts st : List ℕ) (ini : List Bool) (u₀ : List ℕ) (count at stop keep : ℕ) (p : Place) (s : Stmt Range) (rest : Parts) (ρ δ u : List ℕ) (i : ℕ) (cut : Flow) : Type 0 where
   pub h : Bool
   pub cut_is : cut ≡ flow_of h
   pub δ' : List ℕ
@@ -290,7 +290,7 @@ pub record Passes (ws ts st ini u₀ : List ℕ) (count at stop keep : ℕ) (p :
   pub holds : (h || holds_p (marks ws ts st count ini) rest) ≡ holds_s (expand_s s (marks ws ts st count ini))
   pub adds : add_s (expand_s s (marks ws ts st count ini)) ρ ≡ ρ
 
-pub record Passing (ws ts st ini u₀ : List ℕ) (count at stop keep : ℕ) (p : Place) (u : List ℕ) (i : ℕ) (cut : Flow) : Type 0 where
+pub record Passing (ws ts st : List ℕ) (ini : List Bool) (u₀ : List ℕ) (count at stop keep : ℕ) (p : Place) (u : List ℕ) (i : ℕ) (cut : Flow) : Type 0 where
   pub rest : Parts
   pub runs : Runs ws ts i (flat_p rest)
   pub long : i + length (flat_p rest) ≡ stop
@@ -298,7 +298,7 @@ pub record Passing (ws ts st ini u₀ : List ℕ) (count at stop keep : ℕ) (p 
   pub past : at < i
   pub going : (ρ δ : List ℕ) → Scope count at keep ρ δ u₀ → Passes ws ts st ini u₀ count at stop keep p (stmt_of ws ts at stop) rest ρ δ u i cut
 
-pub parts-begin : (ws ts st ini u₀ : List ℕ) (count at stop keep : ℕ) (p : Place) → StmtHere ws ts st count at stop keep → 0 < get_or ws (at + 1) 0 → get_or ws (at + 1) 0 < 4 → (get_or ws (at + 1) 0 ≡ 3 → p.breaks ≡ true) → Passing ws ts st ini u₀ count at stop keep p u₀ (at + 4) Through
+pub parts-begin : (ws ts st : List ℕ) (ini : List Bool) (u₀ : List ℕ) (count at stop keep : ℕ) (p : Place) → StmtHere ws ts st count at stop keep → 0 < get_or ws (at + 1) 0 → get_or ws (at + 1) 0 < 4 → (get_or ws (at + 1) 0 ≡ 3 → p.breaks ≡ true) → Passing ws ts st ini u₀ count at stop keep p u₀ (at + 4) Through
 unfolding flow_of expand_s evals_s add_s holds_s fine_s done_s
 parts-begin ws ts st ini u₀ count at stop keep p here a b s =
     let g = header ws ts at stop (stmt_of ws ts at stop) here.holds in
@@ -411,7 +411,7 @@ nil_holds : (dr : ℕ → Bool) (h : Bool) → (h || holds_p dr nothing) ≡ h
 unfolding holds_p
 nil_holds dr h = or-false h
 
-module _ (ws ts st ini u₀ : List ℕ) (count at stop keep : ℕ) (p : Place) (here : StmtHere ws ts st count at stop keep) where
+module _ (ws ts st : List ℕ) (ini : List Bool) (u₀ : List ℕ) (count at stop keep : ℕ) (p : Place) (here : StmtHere ws ts st count at stop keep) where
   abbrev S : Stmt Range
   S = stmt_of ws ts at stop
 

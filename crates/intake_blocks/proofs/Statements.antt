@@ -161,7 +161,7 @@ module _ (xs : List Cells) (dr : ℕ → Bool) (a b : Block Range) (o : Option �
   unfolding done_s done_b evals_s expand_s
   loop_done = add_e-append (evals_b (expand a keep_all)) (evals_b (expand b keep_all)) δ
 
-module _ (ws ts st ini u₀ : List ℕ) (count at stop keep : ℕ) (ret : Bool) (here : StmtHere ws ts st count at stop keep) (k : get_or ws (at + 1) 0 ≡ 4) where
+module _ (ws ts st : List ℕ) (ini : List Bool) (u₀ : List ℕ) (count at stop keep : ℕ) (ret : Bool) (here : StmtHere ws ts st count at stop keep) (k : get_or ws (at + 1) 0 ≡ 4) where
   abbrev S : Stmt Range
   S = stmt_of ws ts at stop
 
@@ -313,7 +313,7 @@ emit_of ws ts at stop s kill c e is k r l o = absurd (omega arith)
 emit_of ws ts at stop s (call x y z) c e is k r l o = absurd (omega arith)
 emit_of ws ts at stop s (effect x y) c e is k r l o = absurd (omega (arith, (effect_kind o).0))
 
-module _ (ws ts st ini u₀ : List ℕ) (count at stop keep : ℕ) (here : StmtHere ws ts st count at stop keep) where
+module _ (ws ts st : List ℕ) (ini : List Bool) (u₀ : List ℕ) (count at stop keep : ℕ) (here : StmtHere ws ts st count at stop keep) where
   top_of : Header ws ts at stop (stmt_of ws ts at stop)
   top_of = header ws ts at stop (stmt_of ws ts at stop) here.holds
 
@@ -396,7 +396,7 @@ unfolding told flow_of
 continue_is true = refl
 continue_is false = refl
 
-module _ (ws ts st ini u₀ : List ℕ) (count at stop keep : ℕ) (here : StmtHere ws ts st count at stop keep) where
+module _ (ws ts st : List ℕ) (ini : List Bool) (u₀ : List ℕ) (count at stop keep : ℕ) (here : StmtHere ws ts st count at stop keep) where
   abbrev T : Header ws ts at stop (stmt_of ws ts at stop)
   T = header ws ts at stop (stmt_of ws ts at stop) here.holds
 
@@ -493,7 +493,7 @@ simple_of xs dr ws ts i (effect j cs) r o k = record {
   evals = refl;
 }
 
-module _ (ws ts st ini u₀ : List ℕ) (count at stop keep : ℕ) (here : StmtHere ws ts st count at stop keep) (k : 7 ≤ get_or ws (at + 1) 0) where
+module _ (ws ts st : List ℕ) (ini : List Bool) (u₀ : List ℕ) (count at stop keep : ℕ) (here : StmtHere ws ts st count at stop keep) (k : 7 ≤ get_or ws (at + 1) 0) where
   abbrev H : Header ws ts at stop (stmt_of ws ts at stop)
   H = header ws ts at stop (stmt_of ws ts at stop) here.holds
 

@@ -53,16 +53,16 @@ pub record BlockHere (ws ts st : List ℕ) (count at fin keep : ℕ) : Type 0 wh
   pub later : 0 < at
   pub keeps : fin ≤ keep
 
-abbrev pub FindsS : List ℕ → List ℕ → List ℕ → List ℕ → ℕ → ℕ → ℕ → ℕ → Place → List ℕ → List ℕ → Option Flow → Stmt Range → List ℕ → List ℕ → Type 0
+abbrev pub FindsS : List ℕ → List ℕ → List ℕ → List Bool → ℕ → ℕ → ℕ → ℕ → Place → List ℕ → List ℕ → Option Flow → Stmt Range → List ℕ → List ℕ → Type 0
 FindsS ws ts st ini count at stop keep p u₀ u r s ρ δ =
     Finds count stop keep u₀ u r (fine_s (exprs_of ws ts st count) (marks ws ts st count ini) s p ρ δ) (holds_s (expand_s s (marks ws ts st count ini))) (add_s (expand_s s (marks ws ts st count ini)) ρ) (done_s s δ)
 
-abbrev pub FindsB : List ℕ → List ℕ → List ℕ → List ℕ → ℕ → ℕ → ℕ → ℕ → Place → List ℕ → List ℕ → Option Flow → Block Range → List ℕ → List ℕ → Type 0
+abbrev pub FindsB : List ℕ → List ℕ → List ℕ → List Bool → ℕ → ℕ → ℕ → ℕ → Place → List ℕ → List ℕ → Option Flow → Block Range → List ℕ → List ℕ → Type 0
 FindsB ws ts st ini count at fin keep p u₀ u r b ρ δ =
     Finds count fin keep u₀ u r (fine_b (exprs_of ws ts st count) (marks ws ts st count ini) b p ρ δ) (holds_b (expand b (marks ws ts st count ini))) (cont_b (expand b (marks ws ts st count ini)) ρ) (done_b b δ)
 
-pub record FoundS (ws ts st ini : List ℕ) (count at stop keep : ℕ) (p : Place) (u₀ u : List ℕ) (r : Option Flow) : Type 0 where
+pub record FoundS (ws ts st : List ℕ) (ini : List Bool) (count at stop keep : ℕ) (p : Place) (u₀ u : List ℕ) (r : Option Flow) : Type 0 where
   pub found : (ρ δ : List ℕ) → Scope count at keep ρ δ u₀ → FindsS ws ts st ini count at stop keep p u₀ u r (stmt_of ws ts at stop) ρ δ
 
-pub record FoundB (ws ts st ini : List ℕ) (count at fin keep : ℕ) (p : Place) (u₀ u : List ℕ) (r : Option Flow) : Type 0 where
+pub record FoundB (ws ts st : List ℕ) (ini : List Bool) (count at fin keep : ℕ) (p : Place) (u₀ u : List ℕ) (r : Option Flow) : Type 0 where
   pub found : (ρ δ : List ℕ) → Scope count at keep ρ δ u₀ → FindsB ws ts st ini count at fin keep p u₀ u r (block_of ws ts at fin) ρ δ

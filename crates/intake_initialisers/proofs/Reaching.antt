@@ -23,10 +23,11 @@ use Rattle.theory_image.specs.Plain.{plain?, plain-classes}
 use Rattle.theory_image.specs.Sections.{start_of}
 use Rattle.theory_image.specs.FunctionViews.{Held, Part, part_end, part_left, part_right, part-word, part_tag, field?, field_not, Expression, expression_first, expression_class, expression_field, list_all, locals_count, exprs_count, exprs_all, exprs_shapes, expr_part, expr_kind, named-class, stands-end, parts}
 use Rattle.theory_image.specs.Members.{no_mem, mem_left, mem_right, mem_cases}
-use Rattle.model.specs.Between.{between, Long}
+use Rattle.model.specs.Between.{between}
 use Rattle.theory_image.specs.Betweens.{held-between}
 use Rattle.intake_initialisers.specs.Lists.{Lists, Listed, Initialised}
-use Rattle.intake_initialisers.specs.Marks.{finds, on, blank, inits, Visits, Room, Done, Work, Starting, Reaching, Reaches}
+use Rattle.intake_initialisers.specs.declared.Visited.{Visited}
+use Rattle.intake_initialisers.specs.Marks.{finds, on, blank, inits, unvisited, Visits, Room, Done, Work, Starting, Reaching, Reaches}
 use Rattle.intake_initialisers.proofs.Visiting.{mem_one, visits_none, room_after}
 
 -- ---- the last of the list
@@ -35,7 +36,7 @@ mem_last l zero h k = absurd (omega arith)
 mem_last l (suc t) h k = let q : suc t - 1 ≡ t = omega arith in rw q (take-suc l t 0 (omega arith))
 
 -- ---- when the list is empty
-module _ (f : Function) (e : ℕ) (marks list : List ℕ) where
+module _ (f : Function) (v : Visited) where
   inside : (d x : ℕ) → Mem x (ops f.exprs d) → d < length f.exprs
   unfolding ops ops_of
   inside d x p = go (ltb d (length f.exprs)) refl
@@ -44,11 +45,11 @@ module _ (f : Function) (e : ℕ) (marks list : List ℕ) where
       go true q = ltb-true d (length f.exprs) q
       go false q = absurd (no_mem (rw (get_or-eq_default f.exprs [] (ltb-false d (length f.exprs) q)) at p))
 
-  module _ (w : Work f e marks list 0) where
-    done : (y : ℕ) → on marks y ≡ true → Done f e marks y
-    done y h = ⊎_elim (λ p. absurd (no_mem p)) (λ d. d) (w.settled y h)
+  module _ (w : Work f v) (z : v.top ≡ 0) where
+    done : (y : ℕ) → on v.marks y ≡ true → Done f v y
+    done y h = ⊎_elim (λ p. absurd (no_mem (rw z at p))) (λ d. d) (w.settled y h)
 
-    pub all : {y : ℕ} → Reached f y → y < e → on marks y ≡ true
+    pub all : {y : ℕ} → Reached f y → y < v.count → on v.marks y ≡ true
     all {y} (root p) l = w.begun y p l
     all {y} (step {e = d} r p) l = (done d (all r (omega (arith, inside d y p, w.many)))).closed y p l
 
@@ -56,86 +57,91 @@ module _ (f : Function) (e : ℕ) (marks list : List ℕ) where
     reached-fine = sym (initialised-all f (λ y l r. (done y (all r (omega (arith, w.many)))).fine))
 
 -- ---- one expression
+-- what is left when one is taken from the list
+abbrev pub popped : Visited → Visited
+popped v = record { marks = v.marks; list = v.list; top = v.top - 1; count = v.count }
+
 -- the last of the list is one that is reached
-module _ (f : Function) (e : ℕ) (marks list : List ℕ) (top : ℕ) (w : Work f e marks list top) (h : 0 < top) where
-  few : top ≤ 1024
+module _ (f : Function) (v : Visited) (w : Work f v) (h : 0 < v.top) where
+  few : v.top ≤ 1024
   few = omega (arith, w.room.room, w.room.few)
 
-  taken : take top list ≡ take (top - 1) list ++ (get_or list (top - 1) 0 ∷ [])
-  taken = mem_last list top h (omega (arith, few, w.room.list_long))
+  taken : take v.top v.list ≡ take (v.top - 1) v.list ++ (get_or v.list (v.top - 1) 0 ∷ [])
+  taken = mem_last v.list v.top h (omega (arith, few, w.room.list_long))
 
-  marked : on marks (get_or list (top - 1) 0) ≡ true
-  marked = w.held (get_or list (top - 1) 0) (subst (Mem (get_or list (top - 1) 0)) (sym taken) (mem_right (take (top - 1) list) here))
+  is_marked : on v.marks (get_or v.list (v.top - 1) 0) ≡ true
+  is_marked = w.held (get_or v.list (v.top - 1) 0) (subst (Mem (get_or v.list (v.top - 1) 0)) (sym taken) (mem_right (take (v.top - 1) v.list) here))
 
-  below : get_or list (top - 1) 0 < e
-  below = (w.only (get_or list (top - 1) 0) marked).0
+  below : get_or v.list (v.top - 1) 0 < v.count
+  below = (w.only (get_or v.list (v.top - 1) 0) is_marked).0
 
-  reached : Reached f (get_or list (top - 1) 0)
-  reached = (w.only (get_or list (top - 1) 0) marked).1
+  reached : Reached f (get_or v.list (v.top - 1) 0)
+  reached = (w.only (get_or v.list (v.top - 1) 0) is_marked).1
 
-  rest-room : Room e marks list (top - 1)
+  rest-room : Room (popped v)
   rest-room = record { marks_long = w.room.marks_long; list_long = w.room.list_long; few = w.room.few; room = omega (arith, w.room.room) }
 
   -- its kind is barred
-  barred : constant_kind (kind_at f.exprs (get_or list (top - 1) 0)) ≡ false → false ≡ initialised f
+  barred : constant_kind (kind_at f.exprs (get_or v.list (v.top - 1) 0)) ≡ false → false ≡ initialised f
   barred q = go (initialised f) refl
     where
       go : (b : Bool) → initialised f ≡ b → false ≡ initialised f
-      go true i = absurd (false≢true (sym q ∙ initialised_is f i (get_or list (top - 1) 0) (omega (arith, below, w.many)) reached))
+      go true i = absurd (false≢true (sym q ∙ initialised_is f i (get_or v.list (v.top - 1) 0) (omega (arith, below, w.many)) reached))
       go false i = sym i
 
   -- or not, and what it reads is visited
-  visited : constant_kind (kind_at f.exprs (get_or list (top - 1) 0)) ≡ true → (m₁ l₁ : List ℕ) (t₁ : ℕ) → Visits e (ops f.exprs (get_or list (top - 1) 0)) marks list (top - 1) m₁ l₁ t₁ → Work f e m₁ l₁ t₁
-  visited q m₁ l₁ t₁ v = record {
-    many = w.many;
-    room = room_after rest-room v;
-    only = λ y p. ⊎_elim (w.only y) (λ u. (u.0, step reached u.1)) (v.new y p);
-    held = λ y p. ⊎_elim (λ u. v.keeps y (w.held y (subst (Mem y) (sym taken) (mem_left (get_or list (top - 1) 0 ∷ []) u)))) (λ u. u) (v.listed y p);
-    begun = λ y p l. v.keeps y (w.begun y p l);
-    settled = λ y p. ⊎_elim (λ u. ⊎_elim (waiting y) (λ d. inr (later y d)) (w.settled y u)) (λ u. inl u.2) (v.new y p);
+  visited : constant_kind (kind_at f.exprs (get_or v.list (v.top - 1) 0)) ≡ true → (v₁ : Visited) → Visits (ops f.exprs (get_or v.list (v.top - 1) 0)) (popped v) v₁ → Work f v₁
+  visited q v₁ a = record {
+    many = a.count_same ∙ w.many;
+    room = room_after rest-room a;
+    only = λ y p. let u = ⊎_elim (w.only y) (λ u. (u.0, step reached u.1)) (a.new y p) in (omega (arith, u.0, a.count_same), u.1);
+    held = λ y p. ⊎_elim (λ u. a.keeps y (w.held y (subst (Mem y) (sym taken) (mem_left (get_or v.list (v.top - 1) 0 ∷ []) u)))) (λ u. u) (a.listed y p);
+    begun = λ y p l. a.keeps y (w.begun y p (omega (arith, l, a.count_same)));
+    settled = λ y p. ⊎_elim (λ u. ⊎_elim (waiting y) (λ d. inr (later y d)) (w.settled y u)) (λ u. inl u.2) (a.new y p);
   }
     where
-      later : (y : ℕ) → Done f e marks y → Done f e m₁ y
-      later y d = record { fine = d.fine; closed = λ x p l. v.keeps x (d.closed x p l) }
+      later : (y : ℕ) → Done f v y → Done f v₁ y
+      later y d = record { fine = d.fine; closed = λ x p l. a.keeps x (d.closed x p (omega (arith, l, a.count_same))) }
 
-      now_done : Done f e m₁ (get_or list (top - 1) 0)
-      now_done = record { fine = q; closed = λ x p l. v.hits x p l }
+      now_done : Done f v₁ (get_or v.list (v.top - 1) 0)
+      now_done = record { fine = q; closed = λ x p l. a.hits x p (omega (arith, l, a.count_same)) }
 
-      waiting : (y : ℕ) → Mem y (take top list) → Mem y (take t₁ l₁) ⊎ Done f e m₁ y
-      waiting y p = ⊎_elim (λ u. inl (v.lists y u)) (λ u. inr (subst (Done f e m₁) (sym (mem_one {x = y} {y = get_or list (top - 1) 0} u)) now_done)) (mem_cases (take (top - 1) list) (get_or list (top - 1) 0 ∷ []) (subst (Mem y) taken p))
+      waiting : (y : ℕ) → Mem y (take v.top v.list) → Mem y (take v₁.top v₁.list) ⊎ Done f v₁ y
+      waiting y p = ⊎_elim (λ u. inl (a.lists y u)) (λ u. inr (subst (Done f v₁) (sym (mem_one {x = y} {y = get_or v.list (v.top - 1) 0} u)) now_done)) (mem_cases (take (v.top - 1) v.list) (get_or v.list (v.top - 1) 0 ∷ []) (subst (Mem y) taken p))
 
 -- ---- the loop
-pub record Going (words tags starts m₀ l₀ : List ℕ) (t₀ e : ℕ) (m l : List ℕ) (t : ℕ) : Type 0 where
-  pub going : (f : Function) (locals exprs end : ℕ) → Lists words tags locals exprs end f → Starting f e (exprs + 1) starts → Work f e m₀ l₀ t₀ → Work f e m l t
+pub record Going (words tags starts : List ℕ) (v₀ v : Visited) : Type 0 where
+  pub count_same : v.count ≡ v₀.count
+  pub going : (f : Function) (locals exprs end : ℕ) → Lists words tags locals exprs end f → Starting f v₀.count (exprs + 1) starts → Work f v₀ → Work f v
 
-module _ (words tags starts m₀ l₀ : List ℕ) (t₀ e : ℕ) where
-  pub reach_begin : Going words tags starts m₀ l₀ t₀ e m₀ l₀ t₀
-  reach_begin = record { going = λ f locals exprs end ls st w. w }
+module _ (words tags starts : List ℕ) (v₀ : Visited) where
+  pub reach_begin : Going words tags starts v₀ v₀
+  reach_begin = record { count_same = refl; going = λ f locals exprs end ls st w. w }
 
-  module _ (m l : List ℕ) (t : ℕ) (inv : Going words tags starts m₀ l₀ t₀ e m l t) where
-    pub reach_done : t ≤ 0 → Reaches true words tags starts m₀ l₀ t₀ e m l
-    reach_done h = let z : t ≡ 0 = omega arith in record { same = λ f locals exprs end ls st w. reached-fine f e m l (rw z at (inv.going f locals exprs end ls st w)); left = λ q f locals exprs end ls st w. rw z at (inv.going f locals exprs end ls st w) }
+  module _ (v : Visited) (inv : Going words tags starts v₀ v) where
+    pub reach_done : v.top ≤ 0 → Reaches true words tags starts v₀ v
+    reach_done h = let z : v.top ≡ 0 = omega arith in record { same = λ f locals exprs end ls st w. reached-fine f v (inv.going f locals exprs end ls st w) z; left = λ q f locals exprs end ls st w. (inv.going f locals exprs end ls st w, z) }
 
-    module _ (pre : Reaching words tags starts m₀ l₀ t₀ e) (h : 0 < t) where
-      this : Work pre.function e m l t
+    module _ (pre : Reaching words tags starts v₀) (h : 0 < v.top) where
+      this : Work pre.function v
       this = inv.going pre.function pre.locals pre.exprs pre.end pre.lists pre.starting pre.work
 
-      pub reach_list : t - 1 < 1024
-      reach_list = omega (arith, few pre.function e m l t this h)
+      pub reach_list : v.top - 1 < 1024
+      reach_list = omega (arith, few pre.function v this h)
 
-      module _ (x : ℕ) (x_is : x ≡ get_or l (t - 1) 0) where
-        pub reach_below : x < e
-        reach_below = rw x_is (below pre.function e m l t this h)
+      module _ (x : ℕ) (x_is : x ≡ get_or v.list (v.top - 1) 0) where
+        pub reach_below : x < v.count
+        reach_below = rw x_is (below pre.function v this h)
 
         pub reach_start : x < 1024
         reach_start = omega (arith, reach_below, this.room.few)
 
         module _ (at : ℕ) (at-is : at ≡ get_or starts x 0) where
           -- where the expression is
-          here-at : (f : Function) (locals exprs end : ℕ) → Lists words tags locals exprs end f → Starting f e (exprs + 1) starts → at ≡ start_of (exprs + 1) f.exprs x
-          here-at f locals exprs end ls st = at-is ∙ st.each x (omega (arith, reach_below))
+          here-at : (f : Function) (locals exprs end : ℕ) → Lists words tags locals exprs end f → Starting f v₀.count (exprs + 1) starts → at ≡ start_of (exprs + 1) f.exprs x
+          here-at f locals exprs end ls st = at-is ∙ st.each x (omega (arith, reach_below, inv.count_same))
 
-          module _ (f : Function) (locals exprs end : ℕ) (ls : Lists words tags locals exprs end f) (st : Starting f e (exprs + 1) starts) (w : Work f e m l t) where
+          module _ (f : Function) (locals exprs end : ℕ) (ls : Lists words tags locals exprs end f) (st : Starting f v₀.count (exprs + 1) starts) (w : Work f v) where
             number : x < length f.exprs
             number = omega (arith, reach_below, w.many)
 
@@ -158,18 +164,18 @@ module _ (words tags starts m₀ l₀ : List ℕ) (t₀ e : ℕ) where
               let p = at_part f pre.locals pre.exprs pre.end ls pre.starting this in
               omega (arith, part_end p, p.within, long_part f pre.locals pre.exprs pre.end ls pre.starting this, ls.small)
 
-          module _ (v : Bool) (v-is : v ≡ constant_kind (get_or words at 0)) where
-            kind_is : (f : Function) (locals exprs end : ℕ) → Lists words tags locals exprs end f → Starting f e (exprs + 1) starts → Work f e m l t → constant_kind (kind_at f.exprs (get_or l (t - 1) 0)) ≡ v
-            kind_is f locals exprs end ls st w = rw (← x_is) (ap constant_kind (sym (kind-at f locals exprs end ls st w)) ∙ sym v-is)
+          module _ (b : Bool) (b-is : b ≡ constant_kind (get_or words at 0)) where
+            kind_is : (f : Function) (locals exprs end : ℕ) → Lists words tags locals exprs end f → Starting f v₀.count (exprs + 1) starts → Work f v → constant_kind (kind_at f.exprs (get_or v.list (v.top - 1) 0)) ≡ b
+            kind_is f locals exprs end ls st w = rw (← x_is) (ap constant_kind (sym (kind-at f locals exprs end ls st w)) ∙ sym b-is)
 
-            pub reach_barred : not v ≡ true → Reaches false words tags starts m₀ l₀ t₀ e m l
-            reach_barred q = record { same = λ f locals exprs end ls st w₀. let w = inv.going f locals exprs end ls st w₀ in barred f e m l t w h (kind_is f locals exprs end ls st w ∙ not-true v q); left = λ z. absurd (false≢true z) }
+            pub reach_barred : not b ≡ true → (v₁ : Visited) → Reaches false words tags starts v₀ v₁
+            reach_barred q v₁ = record { same = λ f locals exprs end ls st w₀. let w = inv.going f locals exprs end ls st w₀ in barred f v w h (kind_is f locals exprs end ls st w ∙ not-true b q); left = λ z. absurd (false≢true z) }
 
-            module _ (q : not v ≡ false) (to : ℕ) (to_is : to ≡ get_or starts (x + 1) 0) where
-              to_at : (f : Function) (locals exprs end : ℕ) → Lists words tags locals exprs end f → Starting f e (exprs + 1) starts → start_of (exprs + 1) f.exprs (suc x) ≡ to
-              to_at f locals exprs end ls st = sym (to_is ∙ rw (add-one x) (st.each (suc x) reach_below))
+            module _ (q : not b ≡ false) (to : ℕ) (to_is : to ≡ get_or starts (x + 1) 0) where
+              to_at : (f : Function) (locals exprs end : ℕ) → Lists words tags locals exprs end f → Starting f v₀.count (exprs + 1) starts → start_of (exprs + 1) f.exprs (suc x) ≡ to
+              to_at f locals exprs end ls st = sym (to_is ∙ rw (add-one x) (st.each (suc x) (omega (arith, reach_below, inv.count_same))))
 
-              part-to : (f : Function) (locals exprs end : ℕ) (ls : Lists words tags locals exprs end f) → Starting f e (exprs + 1) starts → Work f e m l t → Part ls.cells at to (get_or f.exprs x [])
+              part-to : (f : Function) (locals exprs end : ℕ) (ls : Lists words tags locals exprs end f) → Starting f v₀.count (exprs + 1) starts → Work f v → Part ls.cells at to (get_or f.exprs x [])
               part-to f locals exprs end ls st w = rw (to_at f locals exprs end ls st) at (at_part f locals exprs end ls st w)
 
               this_part : Part pre.lists.cells at to (get_or pre.function.exprs x [])
@@ -181,23 +187,21 @@ module _ (words tags starts m₀ l₀ : List ℕ) (t₀ e : ℕ) where
               pub reach_small : to ≤ 16384
               reach_small = omega (arith, this_part.within, pre.lists.small)
 
-              pub reach_long : Long words tags
-              reach_long = pre.lists.long
+              pub reach_room : Room (popped v)
+              reach_room = rest-room pre.function v this h
 
-              pub reach_room : Room e m l (t - 1)
-              reach_room = rest-room pre.function e m l t this h
-
-              module _ (m₁ l₁ : List ℕ) (t₁ : ℕ) (got : Visits e (ops_of (between tags words at to)) m l (t - 1) m₁ l₁ t₁) where
-                pub reach_less : t₁ + blank e m₁ < t + blank e m
+              module _ (v₁ : Visited) (got : Visits (ops_of (between tags words at to)) (popped v) v₁) where
+                pub reach_less : v₁.top + blank v₁.count v₁.marks < v.top + blank v.count v.marks
                 reach_less = omega (arith, got.moved)
 
-                pub reach_next : Going words tags starts m₀ l₀ t₀ e m₁ l₁ t₁
+                pub reach_next : Going words tags starts v₀ v₁
                 unfolding ops
                 reach_next = record {
+                  count_same = got.count_same ∙ inv.count_same;
                   going = λ f locals exprs end ls st w₀.
                       let w = inv.going f locals exprs end ls st w₀ in
-                      let p : between tags words at to ≡ get_or f.exprs (get_or l (t - 1) 0) [] = rw (← x_is) (held-between ls.own.held (part-to f locals exprs end ls st w)) in
-                      visited f e m l t w h (kind_is f locals exprs end ls st w ∙ not-false v q) m₁ l₁ t₁ (subst (λ cs. Visits e (ops_of cs) m l (t - 1) m₁ l₁ t₁) p got);
+                      let p : between tags words at to ≡ get_or f.exprs (get_or v.list (v.top - 1) 0) [] = rw (← x_is) (held-between ls.own.held (part-to f locals exprs end ls st w)) in
+                      visited f v w h (kind_is f locals exprs end ls st w ∙ not-false b q) v₁ (subst (λ cs. Visits (ops_of cs) (popped v) v₁) p got);
                 }
 
 -- ---- where the expressions start: the places that are found
@@ -293,14 +297,14 @@ inits-all {words} o (l ∷ ls) p q v (each_next w ws) =
     ∙ sym (inits_five l (roots ls) (local-classes w))
 
 -- ---- before the loop
-blank_most : (e : ℕ) (m : List ℕ) → blank e m ≤ e
+blank_most : (e : ℕ) (m : List Bool) → blank e m ≤ e
 unfolding blank
 blank_most zero m = omega arith
 blank_most (suc e) [] = omega arith
-blank_most (suc e) (zero ∷ m) = omega (arith, blank_most e m)
-blank_most (suc e) (suc v ∷ m) = omega (arith, blank_most e m)
+blank_most (suc e) (false ∷ m) = omega (arith, blank_most e m)
+blank_most (suc e) (true ∷ m) = omega (arith, blank_most e m)
 
-none-on : (n y : ℕ) → on (replicate n 0) y ≡ true → ⊥
+none-on : (n y : ℕ) → on (replicate n false) y ≡ true → ⊥
 unfolding on
 none-on zero y h = false≢true h
 none-on (suc n) zero h = false≢true h
@@ -350,21 +354,22 @@ module _ {words tags : List ℕ} {locals exprs end : ℕ} {f : Function} (ls : L
         let n : count ≡ length f.locals = q ∙ ap (λ o. get_or words o 0) ls.locals_at_lem ∙ locals_count ls.own in
         rw (n, ls.locals_at_lem) (inits-all ls.own.held f.locals (locals_at ls.start words + 1) (expressions_at ls.start words) (list_all LOCALS f.locals (parts ls.own).locals_part) ls.own.well.locals_ok.each)
 
-    pub begun : (count : ℕ) → count ≡ get_or words locals 0 → (l₀ m l : List ℕ) (t : ℕ) → length l₀ ≡ 1024 → Visits e (inits count (drop (locals + 1) words)) (replicate 1024 0) l₀ 0 m l t → Work f e m l t
-    begun count q l₀ m l t long v = record {
-      many = many_is;
-      room = room_after room v;
-      only = λ y p. ⊎_elim (λ u. absurd (none-on 1024 y u)) (λ u. (u.0, root (subst (Mem y) r u.1))) (v.new y p);
-      held = λ y p. ⊎_elim (λ u. absurd (no_mem u)) (λ u. u) (v.listed y p);
-      begun = λ y p. v.hits y (subst (Mem y) (sym r) p);
-      settled = λ y p. ⊎_elim (λ u. absurd (none-on 1024 y u)) (λ u. inl u.2) (v.new y p);
+    -- nothing is marked, and nothing is on the list
+    pub room_first : (l₀ : List ℕ) → length l₀ ≡ 1024 → Room (unvisited e l₀)
+    room_first l₀ long = record { marks_long = length-replicate 1024 false; list_long = long; few = many_few; room = omega (arith, blank_most e (replicate 1024 false)) }
+
+    pub begun : (count : ℕ) → count ≡ get_or words locals 0 → (l₀ : List ℕ) → length l₀ ≡ 1024 → (v : Visited) → Visits (inits count (drop (locals + 1) words)) (unvisited e l₀) v → Work f v
+    begun count q l₀ long v a = record {
+      many = a.count_same ∙ many_is;
+      room = room_after (room_first l₀ long) a;
+      only = λ y p. ⊎_elim (λ u. absurd (none-on 1024 y u)) (λ u. (omega (arith, u.0, a.count_same), root (subst (Mem y) r u.1))) (a.new y p);
+      held = λ y p. ⊎_elim (λ u. absurd (no_mem u)) (λ u. u) (a.listed y p);
+      begun = λ y p l. a.hits y (subst (Mem y) (sym r) p) (omega (arith, l, a.count_same));
+      settled = λ y p. ⊎_elim (λ u. absurd (none-on 1024 y u)) (λ u. inl u.2) (a.new y p);
     }
       where
         r : inits count (drop (locals + 1) words) ≡ roots f.locals
         r = rooted count q
-
-        room : Room e (replicate 1024 0) l₀ 0
-        room = record { marks_long = length-replicate {A = ℕ} 1024 0; list_long = long; few = many_few; room = omega (arith, blank_most e (replicate 1024 0)) }
 
 module _ (words tags : List ℕ) (locals exprs end : ℕ) (pre : Listed words tags locals exprs end) where
   pub init_locals : locals < 16384
@@ -383,32 +388,35 @@ module _ (words tags : List ℕ) (locals exprs end : ℕ) (pre : Listed words ta
     pub init-count : locals + 1 + 5 * count ≤ 16384
     init-count = let ls = pre.lists in omega (arith, exprs_in ls, end_in ls, locals_in ls count count_is)
 
-    pub init-room : (l₀ : List ℕ) → length l₀ ≡ 1024 → Room e (replicate 1024 0) l₀ 0
-    init-room l₀ long = record { marks_long = length-replicate {A = ℕ} 1024 0; list_long = long; few = many_few pre.lists e e-is; room = omega (arith, blank_most e (replicate 1024 0)) }
+    pub init-room : (l₀ : List ℕ) → length l₀ ≡ 1024 → Room (unvisited e l₀)
+    init-room l₀ long = room_first pre.lists e e-is l₀ long
 
     -- without locals nothing is reached
     pub init-empty : count ≡ 0 → Initialised true words tags locals exprs end
     unfolding inits
-    init-empty z = record { same = λ f ls. reached-fine f e (replicate 1024 0) (replicate 1024 0) (begun ls e e-is count count_is (replicate 1024 0) (replicate 1024 0) (replicate 1024 0) 0 (length-replicate {A = ℕ} 1024 0) (rw z (visits_none e (replicate 1024 0) (replicate 1024 0) 0))) }
+    init-empty z = let l₀ = replicate 1024 0 in record { same = λ f ls. reached-fine f (unvisited e l₀) (begun ls e e-is count count_is l₀ (length-replicate {A = ℕ} 1024 0) (unvisited e l₀) (rw z (visits_none (unvisited e l₀)))) refl }
 
     pub init_few : length (finds (exprs + 1) (slice (exprs + 1) end tags)) ≤ 1025
     init_few = found_few pre.lists e e-is
 
-    module _ (l₀ : List ℕ) (long : length l₀ ≡ 1024) (m l : List ℕ) (t : ℕ) (v : Visits e (inits count (drop (locals + 1) words)) (replicate 1024 0) l₀ 0 m l t) where
-      pub init-none : t ≡ 0 → Initialised true words tags locals exprs end
-      init-none z = record { same = λ f ls. reached-fine f e m l (rw z at (begun ls e e-is count count_is l₀ m l t long v)) }
+    module _ (l₀ : List ℕ) (long : length l₀ ≡ 1024) (v : Visited) (a : Visits (inits count (drop (locals + 1) words)) (unvisited e l₀) v) where
+      pub init-none : v.top ≡ 0 → Initialised true words tags locals exprs end
+      init-none z = record { same = λ f ls. reached-fine f v (begun ls e e-is count count_is l₀ long v a) z }
 
       module _ (starts : List ℕ) (found_at : starts ≡ sets (replicate 1025 0) 0 (finds (exprs + 1) (slice (exprs + 1) end tags))) where
-        pub init_reach : Reaching words tags starts m l t e
+        init_starting : {f : Function} → Lists words tags locals exprs end f → Starting f v.count (exprs + 1) starts
+        init_starting {f} ls = subst (λ n. Starting f n (exprs + 1) starts) (sym a.count_same) (starting ls e e-is (replicate 1025 0) starts (length-replicate {A = ℕ} 1025 0) found_at)
+
+        pub init_reach : Reaching words tags starts v
         init_reach = record {
           function = pre.function;
           locals = locals;
           exprs = exprs;
           end = end;
           lists = pre.lists;
-          starting = starting pre.lists e e-is (replicate 1025 0) starts (length-replicate {A = ℕ} 1025 0) found_at;
-          work = begun pre.lists e e-is count count_is l₀ m l t long v;
+          starting = init_starting pre.lists;
+          work = begun pre.lists e e-is count count_is l₀ long v a;
         }
 
-        pub init_done : (r : Bool) (m₁ l₁ : List ℕ) → Reaches r words tags starts m l t e m₁ l₁ → Initialised r words tags locals exprs end
-        init_done r m₁ l₁ got = record { same = λ f ls. got.same f locals exprs end ls (starting ls e e-is (replicate 1025 0) starts (length-replicate {A = ℕ} 1025 0) found_at) (begun ls e e-is count count_is l₀ m l t long v) }
+        pub init_done : (r : Bool) (v₁ : Visited) → Reaches r words tags starts v v₁ → Initialised r words tags locals exprs end
+        init_done r v₁ got = record { same = λ f ls. got.same f locals exprs end ls (init_starting ls) (begun ls e e-is count count_is l₀ long v a) }

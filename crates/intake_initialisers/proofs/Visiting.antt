@@ -1,7 +1,7 @@
 -- Marks and the list of what is to be visited: one visit, visits one after the other, and the loops that visit what cells read and what locals begin with.
 use mathlib.Core.Path.{◌≡◌, refl, sym, ap, ◌∙◌, subst}
 use mathlib.Core.Logic.{inl, inr, ⊎_elim}
-use mathlib.Core.Bool.{Bool, true, false}
+use mathlib.Core.Bool.{Bool, true, false, false≢true}
 use Rattle.std.specs.Prelude.{Option, Some, None, map}
 use Rattle.std.specs.Option.{SomeIff}
 use mathlib.Core.List.{List, [], ◌∷◌, ◌++◌}
@@ -11,13 +11,14 @@ use native.Mathlib.Omega.{arith}
 use lib.Dec.{eqb}
 use lib.ListN.{length, get_or, set, take, drop, length-set}
 use lib.Seq.{slice, sets, slice-cons, slice_empty, take-suc-set, get_or-set_same, get_or-set_other, get_or-drop, drop-drop}
-use borrow.Author.Tests.{lt-ltb, eq-eqb, ne_eqb, eqb-true, eqb-false}
+use borrow.Author.Tests.{eq-eqb, ne_eqb, eqb-true, eqb-false}
 use Rattle.model.specs.Operands.{optional, operand, ops_of}
 use Rattle.model.specs.Initial.{Mem, here, there}
 use Rattle.theory_image.specs.Members.{no_mem, mem_left, mem_right, mem_cases}
 use Rattle.model.specs.Between.{between, Long}
 use Rattle.theory_image.specs.Betweens.{between_none, between_cons}
 use Rattle.intake_initialisers.specs.Marks.{finds, Found, before, reads, on, blank, inits, Visits, Room}
+use Rattle.intake_initialisers.specs.declared.Visited.{Visited}
 
 -- ---- what a word reads
 -- a number less 1, if it is not 0
@@ -53,8 +54,9 @@ mem_one here = refl
 mem_one (there m) = absurd (no_mem m)
 
 -- ---- visits
-pub visits_none : (e : ℕ) (m l : List ℕ) (t : ℕ) → Visits e [] m l t m l t
-visits_none e m l t = record {
+pub visits_none : (v : Visited) → Visits [] v v
+visits_none v = record {
+  count_same = refl;
   marks_long = refl;
   list_long = refl;
   moved = refl;
@@ -65,44 +67,41 @@ visits_none e m l t = record {
   listed = λ y h. inl h;
 }
 
-pub visits_then : {e : ℕ} (xs ys : List ℕ) {m l m₁ l₁ m₂ l₂ : List ℕ} {t t₁ t₂ : ℕ} → Visits e xs m l t m₁ l₁ t₁ → Visits e ys m₁ l₁ t₁ m₂ l₂ t₂ → Visits e (xs ++ ys) m l t m₂ l₂ t₂
-visits_then xs ys {m} {l} {m₁} {l₁} {m₂} {l₂} {t} {t₁} {t₂} v w = record {
-  marks_long = w.marks_long ∙ v.marks_long;
-  list_long = w.list_long ∙ v.list_long;
-  moved = w.moved ∙ v.moved;
-  keeps = λ y h. w.keeps y (v.keeps y h);
-  hits = λ y h i. ⊎_elim (λ p. w.keeps y (v.hits y p i)) (λ p. w.hits y p i) (mem_cases xs ys h);
-  new = λ y h. ⊎_elim (λ p. ⊎_elim inl (λ q. inr (q.0, mem_left ys q.1, w.lists y q.2)) (v.new y p)) (λ q. inr (q.0, mem_right xs q.1, q.2)) (w.new y h);
-  lists = λ y h. w.lists y (v.lists y h);
-  listed = λ y h. ⊎_elim (λ p. ⊎_elim inl (λ q. inr (w.keeps y q)) (v.listed y p)) inr (w.listed y h);
+pub visits_then : (xs ys : List ℕ) {u v w : Visited} → Visits xs u v → Visits ys v w → Visits (xs ++ ys) u w
+visits_then xs ys a b = record {
+  count_same = b.count_same ∙ a.count_same;
+  marks_long = b.marks_long ∙ a.marks_long;
+  list_long = b.list_long ∙ a.list_long;
+  moved = b.moved ∙ a.moved;
+  keeps = λ y h. b.keeps y (a.keeps y h);
+  hits = λ y h i. ⊎_elim (λ p. b.keeps y (a.hits y p i)) (λ p. b.hits y p (omega (arith, a.count_same))) (mem_cases xs ys h);
+  new = λ y h. ⊎_elim (λ p. ⊎_elim inl (λ q. inr (q.0, mem_left ys q.1, b.lists y q.2)) (a.new y p)) (λ q. inr (omega (arith, q.0, a.count_same), mem_right xs q.1, q.2)) (b.new y h);
+  lists = λ y h. b.lists y (a.lists y h);
+  listed = λ y h. ⊎_elim (λ p. ⊎_elim inl (λ q. inr (b.keeps y q)) (a.listed y p)) inr (b.listed y h);
 }
 
-pub room_after : {e : ℕ} {xs m l m₁ l₁ : List ℕ} {t t₁ : ℕ} → Room e m l t → Visits e xs m l t m₁ l₁ t₁ → Room e m₁ l₁ t₁
-room_after r v = record { marks_long = v.marks_long ∙ r.marks_long; list_long = v.list_long ∙ r.list_long; few = r.few; room = omega (arith, v.moved, r.room) }
+pub room_after : {xs : List ℕ} {v v₁ : Visited} → Room v → Visits xs v v₁ → Room v₁
+room_after r a = record { marks_long = a.marks_long ∙ r.marks_long; list_long = a.list_long ∙ r.list_long; few = omega (arith, r.few, a.count_same); room = omega (arith, a.moved, a.count_same, r.room) }
 
 -- ---- one visit
-on_not : (m : List ℕ) (z : ℕ) → (get_or m z 0 ≡ 0 → ⊥) → on m z ≡ true
+on-set : (m : List Bool) (z : ℕ) → z < length m → on (set m z true) z ≡ true
 unfolding on
-on_not m z h = lt-ltb 0 (get_or m z 0) (omega arith)
+on-set m z h = get_or-set_same m z true false h
 
-on-set : (m : List ℕ) (z : ℕ) → z < length m → on (set m z 1) z ≡ true
+on-other : (m : List Bool) (z y : ℕ) → (y ≡ z → ⊥) → on (set m z true) y ≡ on m y
 unfolding on
-on-set m z h = rw (get_or-set_same m z 1 0 h)
+on-other m z y h = get_or-set_other m z y true false h
 
-on-other : (m : List ℕ) (z y : ℕ) → (y ≡ z → ⊥) → on (set m z 1) y ≡ on m y
-unfolding on
-on-other m z y h = rw (get_or-set_other m z y 1 0 h)
-
-blank-set : (e : ℕ) (m : List ℕ) (z : ℕ) → z < e → z < length m → get_or m z 0 ≡ 0 → suc (blank e (set m z 1)) ≡ blank e m
+blank-set : (e : ℕ) (m : List Bool) (z : ℕ) → z < e → z < length m → get_or m z false ≡ false → suc (blank e (set m z true)) ≡ blank e m
 unfolding blank
 blank-set zero m z h k q = absurd (omega arith)
 blank-set (suc e) [] z h k q = absurd (omega arith)
-blank-set (suc e) (zero ∷ m) zero h k q = refl
-blank-set (suc e) (suc v ∷ m) zero h k q = absurd (omega arith)
-blank-set (suc e) (zero ∷ m) (suc z) h k q = ap suc (blank-set e m z (omega arith) (omega arith) q)
-blank-set (suc e) (suc v ∷ m) (suc z) h k q = blank-set e m z (omega arith) (omega arith) q
+blank-set (suc e) (false ∷ m) zero h k q = refl
+blank-set (suc e) (true ∷ m) zero h k q = absurd (false≢true (sym q))
+blank-set (suc e) (false ∷ m) (suc z) h k q = ap suc (blank-set e m z (omega arith) (omega arith) q)
+blank-set (suc e) (true ∷ m) (suc z) h k q = blank-set e m z (omega arith) (omega arith) q
 
-pub blank_some : (e : ℕ) (m : List ℕ) (z : ℕ) → z < e → z < length m → get_or m z 0 ≡ 0 → 0 < blank e m
+pub blank_some : (e : ℕ) (m : List Bool) (z : ℕ) → z < e → z < length m → get_or m z false ≡ false → 0 < blank e m
 blank_some e m z h k q = omega (arith, blank-set e m z h k q)
 
 cases : (P : Type 0) (a b : ℕ) → (a ≡ b → P) → ((a ≡ b → ⊥) → P) → P
@@ -112,10 +111,11 @@ cases P a b f g = go (eqb a b) refl
     go true q = f (eqb-true a b q)
     go false q = g (eqb-false a b q)
 
-module _ (e : ℕ) (m l : List ℕ) (t : ℕ) where
+module _ (v : Visited) where
   -- nothing new where what is there to hit is marked
-  idle : (z : ℕ) → (z < e → on m z ≡ true) → Visits e (z ∷ []) m l t m l t
+  idle : (z : ℕ) → (z < v.count → on v.marks z ≡ true) → Visits (z ∷ []) v v
   idle z h = record {
+    count_same = refl;
     marks_long = refl;
     list_long = refl;
     moved = refl;
@@ -126,80 +126,82 @@ module _ (e : ℕ) (m l : List ℕ) (t : ℕ) where
     listed = λ y p. inl p;
   }
 
-  pub visit_out : (x : ℕ) → e ≤ x → Visits e (x ∷ []) m l t m l t
+  pub visit_out : (x : ℕ) → v.count ≤ x → Visits (x ∷ []) v v
   visit_out x h = idle x (λ i. absurd (omega arith))
 
-  pub visit_again : (x : ℕ) → (get_or m x 0 ≡ 0 → ⊥) → Visits e (x ∷ []) m l t m l t
-  visit_again x h = idle x (λ i. on_not m x h)
+  pub visit_again : (x : ℕ) → get_or v.marks x false ≡ true → Visits (x ∷ []) v v
+  unfolding on
+  visit_again x h = idle x (λ i. h)
 
-  module _ (r : Room e m l t) where
-    pub visit_room : (x : ℕ) → x < e → get_or m x 0 ≡ 0 → t < 1024
-    visit_room x h q = omega (arith, blank_some e m x h (omega (arith, r.marks_long, r.few)) q, r.room, r.few)
+  module _ (r : Room v) where
+    pub visit_room : (x : ℕ) → x < v.count → get_or v.marks x false ≡ false → v.top < 1024
+    visit_room x h q = omega (arith, blank_some v.count v.marks x h (omega (arith, r.marks_long, r.few)) q, r.room, r.few)
 
-    pub visit_push : (z : ℕ) → z < e → get_or m z 0 ≡ 0 → Visits e (z ∷ []) m l t (set m z 1) (set l t z) (t + 1)
+    pub visit_push : (z : ℕ) → z < v.count → get_or v.marks z false ≡ false → Visits (z ∷ []) v (record { marks = set v.marks z true; list = set v.list v.top z; top = v.top + 1; count = v.count })
     visit_push z h q = record {
-      marks_long = length-set m z 1;
-      list_long = length-set l t z;
-      moved = omega (arith, blank-set e m z h inside q);
-      keeps = λ y p. cases (on (set m z 1) y ≡ true) y z (λ u. rw u (on-set m z inside)) (λ u. on-other m z y u ∙ p);
-      hits = λ y p i. rw (mem_one p) (on-set m z inside);
-      new = λ y p. cases _ y z (λ u. inr (rw u h, rw u here, rw u (subst (Mem z) (sym taken) (mem_right (take t l) here)))) (λ u. inl (sym (on-other m z y u) ∙ p));
+      count_same = refl;
+      marks_long = length-set v.marks z true;
+      list_long = length-set v.list v.top z;
+      moved = omega (arith, blank-set v.count v.marks z h inside q);
+      keeps = λ y p. cases (on (set v.marks z true) y ≡ true) y z (λ u. rw u (on-set v.marks z inside)) (λ u. on-other v.marks z y u ∙ p);
+      hits = λ y p i. rw (mem_one p) (on-set v.marks z inside);
+      new = λ y p. cases _ y z (λ u. inr (rw u h, rw u here, rw u (subst (Mem z) (sym taken) (mem_right (take v.top v.list) here)))) (λ u. inl (sym (on-other v.marks z y u) ∙ p));
       lists = λ y p. subst (Mem y) (sym taken) (mem_left (z ∷ []) p);
-      listed = λ y p. ⊎_elim inl (λ u. inr (rw (mem_one {x = y} {y = z} u) (on-set m z inside))) (mem_cases (take t l) (z ∷ []) (subst (Mem y) taken p));
+      listed = λ y p. ⊎_elim inl (λ u. inr (rw (mem_one {x = y} {y = z} u) (on-set v.marks z inside))) (mem_cases (take v.top v.list) (z ∷ []) (subst (Mem y) taken p));
     }
       where
-        inside : z < length m
+        inside : z < length v.marks
         inside = omega (arith, r.marks_long, r.few)
 
-        taken : take (t + 1) (set l t z) ≡ take t l ++ (z ∷ [])
-        taken = rw (add-one t) (take-suc-set l t z (omega (arith, blank_some e m z h inside q, r.room, r.few, r.list_long)))
+        taken : take (v.top + 1) (set v.list v.top z) ≡ take v.top v.list ++ (z ∷ [])
+        taken = rw (add-one v.top) (take-suc-set v.list v.top z (omega (arith, blank_some v.count v.marks z h inside q, r.room, r.few, r.list_long)))
 
 -- ---- what cells read
-pub record Spreading (e : ℕ) (words tags : List ℕ) (at end : ℕ) (m₀ l₀ : List ℕ) (t₀ i : ℕ) (m l : List ℕ) (n : ℕ) : Type 0 where
+pub record Spreading (words tags : List ℕ) (at end : ℕ) (v₀ : Visited) (i : ℕ) (v : Visited) : Type 0 where
   pub to : i ≤ end
-  pub room : Room e m l n
-  pub onward : (m₁ l₁ : List ℕ) (t₁ : ℕ) → Visits e (ops_of (between tags words i end)) m l n m₁ l₁ t₁ → Visits e (ops_of (between tags words at end)) m₀ l₀ t₀ m₁ l₁ t₁
+  pub room : Room v
+  pub onward : (v₁ : Visited) → Visits (ops_of (between tags words i end)) v v₁ → Visits (ops_of (between tags words at end)) v₀ v₁
 
-module _ (e : ℕ) (words tags : List ℕ) (at end : ℕ) (m₀ l₀ : List ℕ) (t₀ : ℕ) where
-  pub spread_begin : at ≤ end → Room e m₀ l₀ t₀ → Spreading e words tags at end m₀ l₀ t₀ at m₀ l₀ t₀
-  spread_begin h r = record { to = h; room = r; onward = λ m l t v. v }
+module _ (words tags : List ℕ) (at end : ℕ) (v₀ : Visited) where
+  pub spread_begin : at ≤ end → Room v₀ → Spreading words tags at end v₀ at v₀
+  spread_begin h r = record { to = h; room = r; onward = λ v a. a }
 
-  module _ (i : ℕ) (m l : List ℕ) (n : ℕ) (inv : Spreading e words tags at end m₀ l₀ t₀ i m l n) where
-    pub spread_done : end ≤ i → Visits e (ops_of (between tags words at end)) m₀ l₀ t₀ m l n
+  module _ (i : ℕ) (v : Visited) (inv : Spreading words tags at end v₀ i v) where
+    pub spread_done : end ≤ i → Visits (ops_of (between tags words at end)) v₀ v
     unfolding ops_of
-    spread_done h = inv.onward m l n (rw (between_none tags words i end h) (visits_none e m l n))
+    spread_done h = inv.onward v (rw (between_none tags words i end h) (visits_none v))
 
     module _ (h : i < end) (long : Long words tags) (ok : end ≤ 16384) where
       read_one : ops_of (between tags words i end) ≡ first (reads (get_or tags i 0) (get_or words i 0)) (ops_of (between tags words (i + 1) end))
       unfolding ops_of
       read_one = ap ops_of (between_cons tags words i end h long ok) ∙ operand-first (get_or tags i 0) (get_or words i 0) (ops_of (between tags words (i + 1) end))
 
-      pub spread_next : (x : ℕ) → Some x ≡ reads (get_or tags i 0) (get_or words i 0) → (m₁ l₁ : List ℕ) (n₁ : ℕ) → Visits e (x ∷ []) m l n m₁ l₁ n₁ → Spreading e words tags at end m₀ l₀ t₀ (i + 1) m₁ l₁ n₁
+      pub spread_next : (x : ℕ) → Some x ≡ reads (get_or tags i 0) (get_or words i 0) → (v₁ : Visited) → Visits (x ∷ []) v v₁ → Spreading words tags at end v₀ (i + 1) v₁
       unfolding first
-      spread_next x is m₁ l₁ n₁ v = record {
+      spread_next x is v₁ a = record {
         to = omega arith;
-        room = room_after inv.room v;
-        onward = λ m₂ l₂ t₂ w. inv.onward m₂ l₂ t₂ (rw (read_one, ← is) (visits_then (x ∷ []) (ops_of (between tags words (i + 1) end)) v w));
+        room = room_after inv.room a;
+        onward = λ v₂ b. inv.onward v₂ (rw (read_one, ← is) (visits_then (x ∷ []) (ops_of (between tags words (i + 1) end)) a b));
       }
 
-      pub spread_skip : None ≡ reads (get_or tags i 0) (get_or words i 0) → Spreading e words tags at end m₀ l₀ t₀ (i + 1) m l n
+      pub spread_skip : None ≡ reads (get_or tags i 0) (get_or words i 0) → Spreading words tags at end v₀ (i + 1) v
       unfolding first
-      spread_skip is = record { to = omega arith; room = inv.room; onward = λ m₂ l₂ t₂ w. inv.onward m₂ l₂ t₂ (rw (read_one, ← is) w) }
+      spread_skip is = record { to = omega arith; room = inv.room; onward = λ v₂ b. inv.onward v₂ (rw (read_one, ← is) b) }
 
 -- ---- what locals begin with
-pub record Rooting (e : ℕ) (words : List ℕ) (at count : ℕ) (m₀ l₀ : List ℕ) (i : ℕ) (m l : List ℕ) (n : ℕ) : Type 0 where
+pub record Rooting (words : List ℕ) (at count : ℕ) (v₀ : Visited) (i : ℕ) (v : Visited) : Type 0 where
   pub to : i ≤ count
-  pub room : Room e m l n
-  pub onward : (m₁ l₁ : List ℕ) (t₁ : ℕ) → Visits e (inits (count - i) (drop (at + 5 * i) words)) m l n m₁ l₁ t₁ → Visits e (inits count (drop at words)) m₀ l₀ 0 m₁ l₁ t₁
+  pub room : Room v
+  pub onward : (v₁ : Visited) → Visits (inits (count - i) (drop (at + 5 * i) words)) v v₁ → Visits (inits count (drop at words)) v₀ v₁
 
-module _ (e : ℕ) (words : List ℕ) (at count : ℕ) (m₀ l₀ : List ℕ) where
-  pub roots-begin : Room e m₀ l₀ 0 → Rooting e words at count m₀ l₀ 0 m₀ l₀ 0
-  roots-begin r = let a : at + 5 * 0 ≡ at = omega arith in let b : count - 0 ≡ count = omega arith in record { to = omega arith; room = r; onward = λ m l t v. rw (a, b) at v }
+module _ (words : List ℕ) (at count : ℕ) (v₀ : Visited) where
+  pub roots-begin : Room v₀ → Rooting words at count v₀ 0 v₀
+  roots-begin r = let a : at + 5 * 0 ≡ at = omega arith in let b : count - 0 ≡ count = omega arith in record { to = omega arith; room = r; onward = λ v u. rw (a, b) at u }
 
-  module _ (i : ℕ) (m l : List ℕ) (n : ℕ) (inv : Rooting e words at count m₀ l₀ i m l n) where
-    pub roots_done : count ≤ i → Visits e (inits count (drop at words)) m₀ l₀ 0 m l n
+  module _ (i : ℕ) (v : Visited) (inv : Rooting words at count v₀ i v) where
+    pub roots_done : count ≤ i → Visits (inits count (drop at words)) v₀ v
     unfolding inits
-    roots_done h = let z : count - i ≡ 0 = omega arith in inv.onward m l n (rw z (visits_none e m l n))
+    roots_done h = let z : count - i ≡ 0 = omega arith in inv.onward v (rw z (visits_none v))
 
     module _ (h : i < count) where
       begin_one : inits (count - i) (drop (at + 5 * i) words) ≡ first (before (get_or words (at + 5 * i + 4) 0)) (inits (count - (i + 1)) (drop (at + 5 * (i + 1)) words))
@@ -212,17 +214,17 @@ module _ (e : ℕ) (words : List ℕ) (at count : ℕ) (m₀ l₀ : List ℕ) wh
           ∙ ap (λ ws. optional (get_or words (at + 5 * i + 4) 0) (inits (count - (i + 1)) ws)) (drop-drop 5 (at + 5 * i) words ∙ ap (λ p. drop p words) b)
           ∙ optional-first (get_or words (at + 5 * i + 4) 0) (inits (count - (i + 1)) (drop (at + 5 * (i + 1)) words))
 
-      pub roots-next : (x : ℕ) → Some x ≡ before (get_or words (at + 5 * i + 4) 0) → (m₁ l₁ : List ℕ) (n₁ : ℕ) → Visits e (x ∷ []) m l n m₁ l₁ n₁ → Rooting e words at count m₀ l₀ (i + 1) m₁ l₁ n₁
+      pub roots-next : (x : ℕ) → Some x ≡ before (get_or words (at + 5 * i + 4) 0) → (v₁ : Visited) → Visits (x ∷ []) v v₁ → Rooting words at count v₀ (i + 1) v₁
       unfolding first
-      roots-next x is m₁ l₁ n₁ v = record {
+      roots-next x is v₁ a = record {
         to = omega arith;
-        room = room_after inv.room v;
-        onward = λ m₂ l₂ t₂ w. inv.onward m₂ l₂ t₂ (rw (begin_one, ← is) (visits_then (x ∷ []) (inits (count - (i + 1)) (drop (at + 5 * (i + 1)) words)) v w));
+        room = room_after inv.room a;
+        onward = λ v₂ b. inv.onward v₂ (rw (begin_one, ← is) (visits_then (x ∷ []) (inits (count - (i + 1)) (drop (at + 5 * (i + 1)) words)) a b));
       }
 
-      pub roots_skip : None ≡ before (get_or words (at + 5 * i + 4) 0) → Rooting e words at count m₀ l₀ (i + 1) m l n
+      pub roots_skip : None ≡ before (get_or words (at + 5 * i + 4) 0) → Rooting words at count v₀ (i + 1) v
       unfolding first
-      roots_skip is = record { to = omega arith; room = inv.room; onward = λ m₂ l₂ t₂ w. inv.onward m₂ l₂ t₂ (rw (begin_one, ← is) w) }
+      roots_skip is = record { to = omega arith; room = inv.room; onward = λ v₂ b. inv.onward v₂ (rw (begin_one, ← is) b) }
 
 -- ---- where records start
 -- of a type that `gives` says how to make of a place

@@ -7,7 +7,7 @@ ghost use Rattle.std.proofs.Math.Seq.{slice};
 ghost use Rattle.model.specs.Operands.{ops_of};
 ghost use Rattle.model.specs.Between.{between, Long};
 ghost use Rattle.intake_initialisers.specs.Lists.{Listed, Initialised};
-ghost use Rattle.intake_initialisers.specs.Marks.{finds, Found, reads, inits, Room, Visits, Reaching, Reaches};
+ghost use Rattle.intake_initialisers.specs.Marks.{finds, Found, reads, inits, unvisited, Room, Visits, Reaching, Reaches};
 
 use base_classes::{EXPR, EXPR_KIND, NAMED, OPT_EXPR};
 use base_kinds::constant;
@@ -51,93 +51,86 @@ fn operand(s: u8, w: u32) -> Option<u32>
     }
 }
 
-// Marks the expression x of e, and puts it on the list; a number outside the table is none.
-fn visit(marks: &mut [u8; 1024], list: &mut [u32; 1024], top: usize, e: usize, x: u32) -> usize
-    requires { Room e marks.old list.old top }
-    ensures { Visits e (x ∷ []) marks.old list.old top marks.new list.new result }
-{
-    let place = x as usize;
-    if e <= place || marks[place] != 0 {
-        return top;
-    }
-    marks[place] = 1;
-    list[top] = x;
-    top + 1
+// What is visited of the expressions of a function, `count` of them: each has a mark, and the first `top` of `list` are those whose operands are still to be
+// visited. A stack in fixed memory.
+#[derive(Drop)]
+pub struct Visited {
+    pub marks: [bool; 1024],
+    pub list: [u32; 1024],
+    pub top: usize,
+    pub count: usize,
 }
 
-// Visits what the words from `at` to `end` read.
-fn spread(
-    image: Image,
-    at: usize,
-    end: usize,
-    marks: &mut [u8; 1024],
-    list: &mut [u32; 1024],
-    top: usize,
-    e: usize,
-) -> usize
-    requires long { Long image.words.now image.tags.now }
-    requires at_le_end { at ≤ end }
-    requires end_bound { end ≤ 16384 }
-    requires room { Room e marks.old list.old top }
-    ensures { Visits e (ops_of (between image.entry.tags.now image.entry.words.now at end)) marks.old list.old top marks.new list.new result }
-{
-    let mut n = top;
-    for j in at..end {
-        if let Some(x) = operand(image.tags[j], image.words[j]) {
-            n = visit(marks, list, n, e, x);
-        }
+impl Visited {
+    // Of `count` expressions none is visited. The list may hold anything: it is written before it is read.
+    pub fn begin(&mut self, count: usize)
+        ensures begun { self.new ≡ unvisited count self.old.list }
+        ensures list_len { length self.new.list ≡ 1024 }
+    {
+        self.marks = [false; 1024];
+        self.top = 0;
+        self.count = count;
     }
-    n
-}
 
-// Visits the initialisers of `count` locals from `at` on, each of five words with its initialiser last.
-pub fn roots(
-    words: &Words,
-    at: usize,
-    count: usize,
-    marks: &mut [u8; 1024],
-    list: &mut [u32; 1024],
-    e: usize,
-) -> usize
-    requires words_len { length words.now ≡ 16384 }
-    requires count_bound { at + 5 * count ≤ 16384 }
-    requires room { Room e marks.old list.old 0 }
-    ensures { Visits e (inits count (drop at words.now)) marks.old list.old 0 marks.new list.new result }
-{
-    let mut n = 0;
-    for j in 0..count {
-        if let Some(x) = words[at + 5 * j + 4].checked_sub(1) {
-            n = visit(marks, list, n, e, x);
+    // Marks the expression x, and puts it on the list; a number outside the table is none.
+    fn visit(&mut self, x: u32)
+        requires { Room self.old }
+        ensures { Visits (x ∷ []) self.old self.new }
+    {
+        let place = x as usize;
+        if self.count <= place || self.marks[place] {
+            return;
         }
+        self.marks[place] = true;
+        self.list[self.top] = x;
+        self.top += 1;
     }
-    n
-}
 
-// Visits what is on the list, until nothing is: whether all of it is of kinds that are allowed outside functions too.
-pub fn reach(
-    image: Image,
-    starts: &[u32; 1025],
-    marks: &mut [u8; 1024],
-    list: &mut [u32; 1024],
-    first: usize,
-    e: usize,
-) -> bool
-    requires { Reaching image.words.now image.tags.now starts.now marks.old list.old first e }
-    ensures { Reaches result image.entry.words.now image.entry.tags.now starts.now marks.old list.old first e marks.new list.new }
-{
-    // A stack in fixed memory: what is still to be visited are the first `top` of `list`.
-    let mut top = first;
-    while 0 < top {
-        let n = top - 1;
-        let x = list[n] as usize;
-        let at = starts[x] as usize;
-        if !constant(image.words[at]) {
-            return false;
+    // Visits what the words from `at` to `end` read.
+    fn spread(&mut self, image: Image, at: usize, end: usize)
+        requires long { Long image.words.now image.tags.now }
+        requires at_le_end { at ≤ end }
+        requires end_bound { end ≤ 16384 }
+        requires room { Room self.old }
+        ensures { Visits (ops_of (between image.entry.tags.now image.entry.words.now at end)) self.old self.new }
+    {
+        for j in at..end {
+            if let Some(x) = operand(image.tags[j], image.words[j]) {
+                self.visit(x);
+            }
         }
-        let to = starts[x + 1] as usize;
-        top = spread(image, at, to, marks, list, n, e);
     }
-    true
+
+    // Visits the initialisers of `locals` locals from `at` on, each of five words with its initialiser last.
+    pub fn roots(&mut self, words: &Words, at: usize, locals: usize)
+        requires words_len { length words.now ≡ 16384 }
+        requires locals_bound { at + 5 * locals ≤ 16384 }
+        requires room { Room self.old }
+        ensures { Visits (inits locals (drop at words.now)) self.old self.new }
+    {
+        for j in 0..locals {
+            if let Some(x) = words[at + 5 * j + 4].checked_sub(1) {
+                self.visit(x);
+            }
+        }
+    }
+
+    // Visits what is on the list, until nothing is: whether all of it is of kinds that are allowed outside functions too.
+    pub fn reach(&mut self, image: Image, starts: &[u32; 1025]) -> bool
+        requires { Reaching image.words.now image.tags.now starts.now self.old }
+        ensures { Reaches result image.entry.words.now image.entry.tags.now starts.now self.old self.new }
+    {
+        while 0 < self.top {
+            self.top -= 1;
+            let x = self.list[self.top] as usize;
+            let at = starts[x] as usize;
+            if !constant(image.words[at]) {
+                return false;
+            }
+            self.spread(image, at, starts[x + 1] as usize);
+        }
+        true
+    }
 }
 
 // Whether what the initialisers reach is of those kinds; `locals` and `exprs` are where the two lists have their numbers.
@@ -146,18 +139,21 @@ pub fn initialised(image: Image, locals: usize, exprs: usize, end: usize) -> boo
     ensures { Initialised result image.entry.words.now image.entry.tags.now locals exprs end }
 {
     let count = image.words[locals] as usize;
-    let e = image.words[exprs] as usize;
     // Two early returns: after `||` would stand the rest as a block, which is no plainer.
     if count == 0 {
         return true;
     }
-    let mut marks = [0u8; 1024];
-    let mut list = [0u32; 1024];
-    let top = roots(image.words, locals + 1, count, &mut marks, &mut list, e);
-    if top == 0 {
+    let mut visited = Visited {
+        marks: [false; 1024],
+        list: [0; 1024],
+        top: 0,
+        count: image.words[exprs] as usize,
+    };
+    visited.roots(image.words, locals + 1, count);
+    if visited.top == 0 {
         return true;
     }
-    let mut starts = [0u32; 1025];
+    let mut starts = [0; 1025];
     places(image.tags, exprs + 1, end, &mut starts);
-    reach(image, &starts, &mut marks, &mut list, top, e)
+    visited.reach(image, &starts)
 }

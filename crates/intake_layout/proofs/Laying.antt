@@ -3,7 +3,6 @@ use mathlib.Core.Path.{◌≡◌, refl, sym, ap, ◌∙◌}
 use mathlib.Core.Bool.{Bool, true, false}
 use mathlib.Core.List.{List, ◌++◌, map}
 use borrow.Rule.Slice.PartMut.{post_of}
-use Rattle.std.proofs.Common.{◌⊎◌, inl, inr}
 use Rattle.intake_fields.proofs.Walk.{part_filled}
 use Prim.Native.Nat.{ℕ, ◌*◌, ◌/◌, ◌≤◌, ◌<◌}
 use native.Mathlib.Omega.{arith}
@@ -84,17 +83,13 @@ module _ (bytes words tags words₁ tags₁ : List ℕ) where
   unfolding shows layout_of
   size_is e = record { same = rw (layout_of, e) }
 
-  size_short : length bytes < 80 → LayOutEnsures (Err BadSize) words₁ tags₁ bytes words tags
+  pub size_short : length bytes < 80 → LayOutEnsures (Err BadSize) words₁ tags₁ bytes words tags
   unfolding sized
   size_short h = size_is (rw (sized, lt-leb 80 (length bytes) h))
 
-  size_long : 80 ≤ length bytes → 65536 < length bytes → LayOutEnsures (Err BadSize) words₁ tags₁ bytes words tags
+  pub size_long : 80 ≤ length bytes → 65536 < length bytes → LayOutEnsures (Err BadSize) words₁ tags₁ bytes words tags
   unfolding sized
   size_long h k = size_is (rw (sized, le-leb 80 (length bytes) h, lt-leb (length bytes) 65536 k))
-
-  pub size_out : (length bytes < 80) ⊎ ((80 ≤ length bytes) × (65536 < length bytes)) → LayOutEnsures (Err BadSize) words₁ tags₁ bytes words tags
-  size_out (inl h) = size_short h
-  size_out (inr q) = size_long q.0 q.1
 
   module _ (h : 80 ≤ length bytes) (k : length bytes ≤ 65536) where
     edition : get_or (words_of bytes) 0 0 ≡ word_at bytes 0
@@ -104,17 +99,13 @@ module _ (bytes words tags words₁ tags₁ : List ℕ) where
     total = word_is bytes 1 (omega arith)
 
     module _ (w : ℕ) (is : w ≡ word_at bytes 0) (v : ℕ) (is-v : v ≡ word_at bytes 4) where
-      size_edition : (w ≡ 1 → ⊥) → LayOutEnsures (Err BadSize) words₁ tags₁ bytes words tags
+      pub size_edition : (w ≡ 1 → ⊥) → LayOutEnsures (Err BadSize) words₁ tags₁ bytes words tags
       unfolding sized
       size_edition n = size_is (rw (sized, le-leb 80 (length bytes) h, le-leb (length bytes) 65536 k, ne_eqb (get_or (words_of bytes) 0 0) 1 (λ q. n (is ∙ sym edition ∙ q))))
 
-      size_total : w ≡ 1 → (4 * v ≡ length bytes → ⊥) → LayOutEnsures (Err BadSize) words₁ tags₁ bytes words tags
+      pub size_total : w ≡ 1 → (4 * v ≡ length bytes → ⊥) → LayOutEnsures (Err BadSize) words₁ tags₁ bytes words tags
       unfolding sized
       size_total one n = size_is (rw (sized, le-leb 80 (length bytes) h, le-leb (length bytes) 65536 k, eq-eqb (get_or (words_of bytes) 0 0) 1 (edition ∙ sym is ∙ one), ne_eqb (length bytes) (4 * get_or (words_of bytes) 1 0) (λ q. n (ap (4 *◌) (is-v ∙ sym total) ∙ sym q))))
-
-      pub size_wrong : (w ≡ 1 → ⊥) ⊎ ((w ≡ 1) × (4 * v ≡ length bytes → ⊥)) → LayOutEnsures (Err BadSize) words₁ tags₁ bytes words tags
-      size_wrong (inl n) = size_edition n
-      size_wrong (inr q) = size_total q.0 q.1
 
       module _ (one : w ≡ 1) (whole : 4 * v ≡ length bytes) where
         right : sized (length bytes) (words_of bytes) ≡ true

@@ -31,12 +31,7 @@ pub fn lay_out(image: &[u8], words: &mut Words, tags: &mut Tags) -> Result<usize
     ensures { LayOutEnsures result words.new tags.new image.now words.old tags.old }
 {
     let n = image.len();
-    if n < 80 || 65536 < n {
-        return Err(Refusal::BadSize);
-    }
-    let edition = word_at(image, 0);
-    let total = 4 * word_at(image, 4) as usize;
-    if edition != 1 || total != n {
+    if n < 80 || 65536 < n || word_at(image, 0) != 1 || 4 * word_at(image, 4) as usize != n {
         return Err(Refusal::BadSize);
     }
     base_words::load(image, words);

@@ -7,7 +7,9 @@ ghost use Rattle.intake_fields.specs.Parts.{pieces, table_rows};
 ghost use Rattle.intake_fields.specs.Rows.{ROWS, row_at};
 ghost use Rattle.intake_layout.specs.Extents.{Covers, extent, tabled, special as special_of, sections_from, records_left};
 
-use base_views::{COUNTS, HEADER, OFFSETS, SPECIAL};
+use base_views::{
+    COUNTS, ENTRIES, FUNCTIONS, HEADER, MOST_ENTRIES, MOST_FUNCTIONS, OFFSETS, SPECIAL,
+};
 use base_words::{Tags, Words};
 use intake_fields::table::{PAIR_ROW, RAYS_ROW, RECORDS, entry};
 use intake_fields::{Misread, fill, row, times};
@@ -142,8 +144,8 @@ fn limit(k: usize) -> u32
     ensures { result ≡ get_or limits k 0 }
 {
     match k {
-        6 => 256,
-        7 => 16,
+        FUNCTIONS => MOST_FUNCTIONS as u32,
+        ENTRIES => MOST_ENTRIES as u32,
         _ => 512,
     }
 }

@@ -1,13 +1,13 @@
 -- What the passes of an image say together: the test of refusal 5, for the module that words and tags hold.
 use mathlib.Core.Path.{◌≡◌, refl, sym, ap, ap₂, ◌∙◌, subst}
-use mathlib.Core.Bool.{Bool, true, false, not}
+use mathlib.Core.Bool.{Bool, true, false, ◌&&◌}
 use mathlib.Core.List.{List, [], ◌∷◌, map}
 use mathlib.Core.Option.{some}
 use Prim.Native.Nat.{ℕ, suc, ◌+◌, ◌*◌, ◌<◌}
 use native.Mathlib.Omega.{arith}
 use lib.ListN.{length, get_or, get_elem?, take, length-take, length-drop}
 use lib.Seq.{slice}
-use borrow.Author.Tests.{ne_eqb, not-true, not-false}
+use borrow.Author.Tests.{ne_eqb}
 use Rattle.theory_lists.specs.Lists.{found}
 use Rattle.model.specs.Outcome.{Cells, word}
 use Rattle.model.specs.Table.{SPAN, UPTO, NAME, TYPE, WORD, KEY, name_row, function_head, entry_head}
@@ -17,6 +17,7 @@ use Rattle.model.specs.View.{tables, record_at}
 use Rattle.model.specs.Taped.{Taped}
 use Rattle.model.specs.Between.{between}
 use Rattle.model.specs.Carry.{Lays, lays_next, Each}
+use Rattle.theory_lists.specs.Booleans.{and_assoc}
 use Rattle.model.specs.Names.{field, present, distinct, differ, functions_named, entries_named, function_names, entry_names, named, NumbersFew, Numbered}
 use Rattle.theory_image.specs.Plain.{plain?}
 use Rattle.theory_image.specs.Quiet.{Plainly, plain-none, plain-next, plainly}
@@ -257,37 +258,36 @@ module _ {words tags : List ℕ} {n : ℕ} (v : Numbered words tags n) where
     pub keys_distinct : {r : Bool} → r ≡ distinct (listing (number_at words 8) (count_at 8 words) 0) → r ≡ distinct (map (field KEY) m.special.pairs)
     keys_distinct e = e ∙ ap distinct (keys_listed t)
 
--- ---- the returns: the first test that fails, or the last
-module _ (m : Module) (a : Bool) (one : a ≡ present (function_names m.functions)) where
-  pub fail_1 : not a ≡ true → false ≡ named m
+-- ---- the tests joined: what held so far, and one test more
+pub then_test : {p r d v : Bool} → p ≡ true → r ≡ d → v ≡ r → v ≡ p && d
+then_test {d = d} h e i = i ∙ e ∙ sym (ap (◌&& d) h)
+
+pub else_test : {p v : Bool} (d : Bool) → p ≡ false → v ≡ p → v ≡ p && d
+else_test d h i = i ∙ h ∙ sym (ap (◌&& d) h)
+
+module _ (m : Module) {a b c d e f : Bool} (one : a ≡ present (function_names m.functions)) (two : b ≡ a && present (entry_names m.entries)) (three : c ≡ b && functions_named m.functions)
+    (four : d ≡ c && entries_named m.entries) (five : e ≡ d && differ (map (map word) m.names)) (six : f ≡ e && distinct (function_names m.functions)) where
+  abbrev keys : Bool
+  keys = distinct (map (field KEY) m.special.pairs)
+
+  all_tests : f && keys ≡ named m
   unfolding named
-  fail_1 z = rw (named, sym one ∙ not-true a z)
+  all_tests =
+      let A = present (function_names m.functions) in
+      let B = present (entry_names m.entries) in
+      let C = functions_named m.functions in
+      let D = entries_named m.entries in
+      let E = differ (map (map word) m.names) in
+      let F = distinct (function_names m.functions) in
+      ap (◌&& keys) (six ∙ ap (◌&& F) (five ∙ ap (◌&& E) (four ∙ ap (◌&& D) (three ∙ ap (◌&& C) (two ∙ ap (◌&& B) one)))))
+      ∙ and_assoc ((((A && B) && C) && D) && E) F keys
+      ∙ and_assoc (((A && B) && C) && D) E (F && keys)
+      ∙ and_assoc ((A && B) && C) D (E && (F && keys))
+      ∙ and_assoc (A && B) C (D && (E && (F && keys)))
+      ∙ and_assoc A B (C && (D && (E && (F && keys))))
 
-  module _ (a-ok : not a ≡ false) (b : Bool) (two : b ≡ present (entry_names m.entries)) where
-    pub fail_2 : not b ≡ true → false ≡ named m
-    unfolding named
-    fail_2 z = rw (named, sym one ∙ not-false a a-ok, sym two ∙ not-true b z)
+  pub last_test : f ≡ true → {r : Bool} → r ≡ keys → r ≡ named m
+  last_test h is = is ∙ sym (ap (◌&& keys) h) ∙ all_tests
 
-    module _ (b-ok : not b ≡ false) (c : Bool) (three : c ≡ functions_named m.functions) where
-      pub fail_3 : not c ≡ true → false ≡ named m
-      unfolding named
-      fail_3 z = rw (named, sym one ∙ not-false a a-ok, sym two ∙ not-false b b-ok, sym three ∙ not-true c z)
-
-      module _ (c-ok : not c ≡ false) (d : Bool) (four : d ≡ entries_named m.entries) where
-        pub fail_4 : not d ≡ true → false ≡ named m
-        unfolding named
-        fail_4 z = rw (named, sym one ∙ not-false a a-ok, sym two ∙ not-false b b-ok, sym three ∙ not-false c c-ok, sym four ∙ not-true d z)
-
-        module _ (d-ok : not d ≡ false) (e : Bool) (five : e ≡ differ (map (map word) m.names)) where
-          pub fail_5 : not e ≡ true → false ≡ named m
-          unfolding named
-          fail_5 z = rw (named, sym one ∙ not-false a a-ok, sym two ∙ not-false b b-ok, sym three ∙ not-false c c-ok, sym four ∙ not-false d d-ok, sym five ∙ not-true e z)
-
-          module _ (e-ok : not e ≡ false) (f : Bool) (six : f ≡ distinct (function_names m.functions)) where
-            pub fail_6 : not f ≡ true → false ≡ named m
-            unfolding named
-            fail_6 z = rw (named, sym one ∙ not-false a a-ok, sym two ∙ not-false b b-ok, sym three ∙ not-false c c-ok, sym four ∙ not-false d d-ok, sym five ∙ not-false e e-ok, sym six ∙ not-true f z)
-
-            pub last : not f ≡ false → (r : Bool) → r ≡ distinct (map (field KEY) m.special.pairs) → r ≡ named m
-            unfolding named
-            last f-ok r z = rw (named, sym one ∙ not-false a a-ok, sym two ∙ not-false b b-ok, sym three ∙ not-false c c-ok, sym four ∙ not-false d d-ok, sym five ∙ not-false e e-ok, sym six ∙ not-false f f-ok) z
+  pub no_test : f ≡ false → f ≡ named m
+  no_test h = h ∙ sym (ap (◌&& keys) h) ∙ all_tests

@@ -20,23 +20,23 @@ use Rattle.theory_image.specs.Quiet.{each_append, each_map, Quiet, quiet_named_e
 use Rattle.intake_names.specs.Passes.{unnamed, NONE, marking, Small}
 
 -- ---- marks
-unfoldable clear : List ℕ → List ℕ → Bool
+unfoldable clear : List ℕ → List Bool → Bool
 clear [] ms = true
-clear (x ∷ xs) ms = eqb (get_or ms x 0) 0 && clear xs ms
+clear (x ∷ xs) ms = not (get_or ms x false) && clear xs ms
 
 -- rows one by one, as the pass reads them
-unfoldable rows_ok : List Cells → List ℕ → Bool
+unfoldable rows_ok : List Cells → List Bool → Bool
 rows_ok [] ms = true
-rows_ok (r ∷ rs) ms = eqb (get_or ms (field NAMED-EXPR r) 0) 0 && (not (eqb (field NAME r) 0) && rows_ok rs (set ms (field NAMED-EXPR r) 1))
+rows_ok (r ∷ rs) ms = not (get_or ms (field NAMED-EXPR r) false) && (not (eqb (field NAME r) 0) && rows_ok rs (set ms (field NAMED-EXPR r) true))
 
 none-clear : (xs : List ℕ) → clear xs NONE ≡ true
 unfolding clear
 none-clear [] = refl
-none-clear (x ∷ xs) = rw (eq-eqb (get_or NONE x 0) 0 (zero_at (ltb x 1024) refl)) (none-clear xs)
+none-clear (x ∷ xs) = rw (not_at (ltb x 1024) refl) (none-clear xs)
   where
-    zero_at : (b : Bool) → ltb x 1024 ≡ b → get_or NONE x 0 ≡ 0
-    zero_at true e = get_or-replicate 1024 x 0 0 (ltb-true x 1024 e)
-    zero_at false e = get_or-eq_default NONE 0 {n = x} (rw (length-replicate {A = ℕ} 1024 0) (ltb-false x 1024 e))
+    not_at : (b : Bool) → ltb x 1024 ≡ b → get_or NONE x false ≡ false
+    not_at true e = get_or-replicate 1024 x false false (ltb-true x 1024 e)
+    not_at false e = get_or-eq_default NONE false {n = x} (rw (length-replicate 1024 false) (ltb-false x 1024 e))
 
 -- one more mark
 swap : (a b c d : Bool) → (a && b) && (c && d) ≡ (a && c) && (b && d)
@@ -45,17 +45,17 @@ swap true false true d = refl
 swap true false false d = refl
 swap false b c d = refl
 
-mark-clear : (xs ms : List ℕ) (e : ℕ) → e < length ms → clear xs (set ms e 1) ≡ absent xs e && clear xs ms
+mark-clear : (xs : List ℕ) (ms : List Bool) (e : ℕ) → e < length ms → clear xs (set ms e true) ≡ absent xs e && clear xs ms
 unfolding clear absent
 mark-clear [] ms e h = refl
-mark-clear (x ∷ xs) ms e h = ap₂ ◌&&◌ (one (eqb e x) refl) (mark-clear xs ms e h) ∙ swap (not (eqb e x)) (eqb (get_or ms x 0) 0) (absent xs e) (clear xs ms)
+mark-clear (x ∷ xs) ms e h = ap₂ ◌&&◌ (one (eqb e x) refl) (mark-clear xs ms e h) ∙ swap (not (eqb e x)) (not (get_or ms x false)) (absent xs e) (clear xs ms)
   where
-    one : (b : Bool) → eqb e x ≡ b → eqb (get_or (set ms e 1) x 0) 0 ≡ not (eqb e x) && eqb (get_or ms x 0) 0
+    one : (b : Bool) → eqb e x ≡ b → not (get_or (set ms e true) x false) ≡ not (eqb e x) && not (get_or ms x false)
     one true q =
         let s : e ≡ x = eqb-true e x q in
-        let z : get_or (set ms e 1) x 0 ≡ 1 = ap (λ y. get_or (set ms e 1) y 0) (sym s) ∙ get_or-set_same ms e 1 0 h in
+        let z : get_or (set ms e true) x false ≡ true = ap (λ y. get_or (set ms e true) y false) (sym s) ∙ get_or-set_same ms e true false h in
         rw (q, z)
-    one false q = rw (q, get_or-set_other ms e x 1 0 λ s. eqb-false e x q (sym s))
+    one false q = rw (q, get_or-set_other ms e x true false λ s. eqb-false e x q (sym s))
 
 shuffle : (c p q d a k : Bool) → c && (p && (q && (d && (a && k)))) ≡ (p && q) && ((a && d) && (c && k))
 shuffle true true true true a k = ap (◌&& k) (same_and a)
@@ -73,32 +73,32 @@ shuffle false true true d false k = refl
 shuffle false true false d a k = refl
 shuffle false false q d a k = refl
 
-rows_are : {rs : List Cells} → Each (λ r. field NAMED-EXPR r < 1024) rs → (ms : List ℕ) → length ms ≡ 1024
+rows_are : {rs : List Cells} → Each (λ r. field NAMED-EXPR r < 1024) rs → (ms : List Bool) → length ms ≡ 1024
     → rows_ok rs ms ≡ present (map (field NAME) rs) && (distinct (map (field NAMED-EXPR) rs) && clear (map (field NAMED-EXPR) rs) ms)
 unfolding rows_ok present distinct clear
 rows_are each_none ms l = refl
 rows_are (each_next {a = r} {l = rs} h hs) ms l =
     let e = field NAMED-EXPR r in
     let xs = map (field NAMED-EXPR) rs in
-    ap (λ b. eqb (get_or ms e 0) 0 && (not (eqb (field NAME r) 0) && b)) (rows_are hs (set ms e 1) (length-set ms e 1 ∙ l))
-    ∙ ap (λ b. eqb (get_or ms e 0) 0 && (not (eqb (field NAME r) 0) && (present (map (field NAME) rs) && (distinct xs && b)))) (mark-clear xs ms e (omega arith))
-    ∙ shuffle (eqb (get_or ms e 0) 0) (not (eqb (field NAME r) 0)) (present (map (field NAME) rs)) (distinct xs) (absent xs e) (clear xs ms)
+    ap (λ b. not (get_or ms e false) && (not (eqb (field NAME r) 0) && b)) (rows_are hs (set ms e true) (length-set ms e true ∙ l))
+    ∙ ap (λ b. not (get_or ms e false) && (not (eqb (field NAME r) 0) && (present (map (field NAME) rs) && (distinct xs && b)))) (mark-clear xs ms e (omega arith))
+    ∙ shuffle (not (get_or ms e false)) (not (eqb (field NAME r) 0)) (present (map (field NAME) rs)) (distinct xs) (absent xs e) (clear xs ms)
 
 function-rows : (f : Function) → Few f → rows_ok f.named NONE ≡ expressions_named f
 unfolding expressions_named limit
 function-rows f h =
-    rows_are h NONE (length-replicate {A = ℕ} 1024 0)
+    rows_are h NONE (length-replicate 1024 false)
     ∙ ap (λ b. present (map (field NAME) f.named) && (distinct (map (field NAMED-EXPR) f.named) && b)) (none-clear (map (field NAMED-EXPR) f.named))
     ∙ ap (present (map (field NAME) f.named) &&◌) (and_right (distinct (map (field NAMED-EXPR) f.named)))
 
 -- ---- runs of cells: what they say, and what comes after them with some marks and another class before it
-pub record Onward (cs : Cells) (says : Bool) (b : ℕ) (ms : List ℕ) (rest : Cells) : Type 0 where
+pub record Onward (cs : Cells) (says : Bool) (b : ℕ) (ms : List Bool) (rest : Cells) : Type 0 where
   pub last : ℕ
-  pub marks : List ℕ
+  pub marks : List Bool
   pub calm : eqb last NAMED-EXPR ≡ false
   pub is : marking (cs ++ rest) b ms ≡ says && marking rest last marks
 
-onward_append : {cs ds : Cells} {x y : Bool} {b : ℕ} {ms : List ℕ} {rest : Cells} (o : Onward cs x b ms (ds ++ rest)) → Onward ds y o.last o.marks rest → Onward (cs ++ ds) (x && y) b ms rest
+onward_append : {cs ds : Cells} {x y : Bool} {b : ℕ} {ms : List Bool} {rest : Cells} (o : Onward cs x b ms (ds ++ rest)) → Onward ds y o.last o.marks rest → Onward (cs ++ ds) (x && y) b ms rest
 onward_append {cs} {ds} {x} {y} {rest} o p =
     record {
       last = p.last;
@@ -115,17 +115,17 @@ pub record Calm (c : Cell) : Type 0 where
 quiet_calm : (c : Cell) → Quiet c → Calm c
 quiet_calm c q = record { no_list = quiet-named q; no_number = quiet_named_expr q }
 
-calm-cell : (c : Cell) (cs : Cells) (b : ℕ) (ms : List ℕ) → Calm c → eqb b NAMED-EXPR ≡ false → marking (c ∷ cs) b ms ≡ marking cs (class c) ms
+calm-cell : (c : Cell) (cs : Cells) (b : ℕ) (ms : List Bool) → Calm c → eqb b NAMED-EXPR ≡ false → marking (c ∷ cs) b ms ≡ marking cs (class c) ms
 unfolding marking unnamed
 calm-cell c cs b ms k e = rw (e, k.no_list, k.no_number)
 
-calm-on : {cs : Cells} → Each Calm cs → (b : ℕ) (ms : List ℕ) (rest : Cells) → eqb b NAMED-EXPR ≡ false → Onward cs true b ms rest
+calm-on : {cs : Cells} → Each Calm cs → (b : ℕ) (ms : List Bool) (rest : Cells) → eqb b NAMED-EXPR ≡ false → Onward cs true b ms rest
 calm-on each_none b ms rest e = record { last = b; marks = ms; calm = e; is = refl }
 calm-on (each_next {a = c} {l = cs} k ks) b ms rest e =
     let o = calm-on ks (class c) ms rest k.no_number in
     record { last = o.last; marks = o.marks; calm = o.calm; is = calm-cell c (cs ++ rest) b ms k e ∙ o.is }
 
-quiet-on : {cs : Cells} → Each Quiet cs → (b : ℕ) (ms : List ℕ) (rest : Cells) → eqb b NAMED-EXPR ≡ false → Onward cs true b ms rest
+quiet-on : {cs : Cells} → Each Quiet cs → (b : ℕ) (ms : List Bool) (rest : Cells) → eqb b NAMED-EXPR ≡ false → Onward cs true b ms rest
 quiet-on q = calm-on (each_map quiet_calm q)
 
 -- ---- expressions
@@ -149,19 +149,19 @@ never : (a : Bool) → not (a && false) ≡ true
 never true = refl
 never false = refl
 
-row_on : {r : Cells} → Plainly (NAMED-EXPR ∷ NAME ∷ []) r → (b : ℕ) (ms : List ℕ) (rest : Cells)
-    → marking (r ++ rest) b ms ≡ eqb (get_or ms (field NAMED-EXPR r) 0) 0 && (not (eqb (field NAME r) 0) && marking rest NAME (set ms (field NAMED-EXPR r) 1))
+row_on : {r : Cells} → Plainly (NAMED-EXPR ∷ NAME ∷ []) r → (b : ℕ) (ms : List Bool) (rest : Cells)
+    → marking (r ++ rest) b ms ≡ not (get_or ms (field NAMED-EXPR r) false) && (not (eqb (field NAME r) 0) && marking rest NAME (set ms (field NAMED-EXPR r) true))
 unfolding marking unnamed field
-row_on (plain-next {w = e} (plain-next {w = n} plain-none)) b ms rest = ap (◌&& (eqb (get_or ms e 0) 0 && (not (eqb n 0) && marking rest NAME (set ms e 1)))) (never (eqb b NAMED-EXPR))
+row_on (plain-next {w = e} (plain-next {w = n} plain-none)) b ms rest = ap (◌&& (not (get_or ms e false) && (not (eqb n 0) && marking rest NAME (set ms e true)))) (never (eqb b NAMED-EXPR))
 
-rows_on : {rs : List Cells} → Each (Lays (counted NAMED)) rs → (b : ℕ) (ms : List ℕ) (rest : Cells) → eqb b NAMED-EXPR ≡ false → Onward (flat_all rs) (rows_ok rs ms) b ms rest
+rows_on : {rs : List Cells} → Each (Lays (counted NAMED)) rs → (b : ℕ) (ms : List Bool) (rest : Cells) → eqb b NAMED-EXPR ≡ false → Onward (flat_all rs) (rows_ok rs ms) b ms rest
 unfolding flat_all rows_ok
 rows_on each_none b ms rest e = record { last = b; marks = ms; calm = e; is = refl }
 rows_on (each_next {a = r} {l = rs} l ls) b ms rest e =
-    let o = rows_on ls NAME (set ms (field NAMED-EXPR r) 1) rest refl in
-    let x = eqb (get_or ms (field NAMED-EXPR r) 0) 0 in
+    let o = rows_on ls NAME (set ms (field NAMED-EXPR r) true) rest refl in
+    let x = not (get_or ms (field NAMED-EXPR r) false) in
     let y = not (eqb (field NAME r) 0) in
-    let z = rows_ok rs (set ms (field NAMED-EXPR r) 1) in
+    let z = rows_ok rs (set ms (field NAMED-EXPR r) true) in
     let w = marking rest o.last o.marks in
     record {
       last = o.last;
@@ -170,14 +170,14 @@ rows_on (each_next {a = r} {l = rs} l ls) b ms rest e =
       is = rw (append_assoc r (flat_all rs) rest) (row_on (named_shape l) b ms (flat_all rs ++ rest) ∙ ap (λ q. x && (y && q)) o.is ∙ ap (x &&◌) (sym (and_assoc y z w)) ∙ sym (and_assoc x (y && z) w));
     }
 
-named-on : {rs : List Cells} → Each (Lays (counted NAMED)) rs → (b : ℕ) (ms : List ℕ) (rest : Cells) → Onward (flat_list NAMED rs) (rows_ok rs NONE) b ms rest
+named-on : {rs : List Cells} → Each (Lays (counted NAMED)) rs → (b : ℕ) (ms : List Bool) (rest : Cells) → Onward (flat_list NAMED rs) (rows_ok rs NONE) b ms rest
 unfolding flat_list marking unnamed
 named-on {rs} l b ms rest =
     let o = rows_on l NAMED NONE rest refl in
     record { last = o.last; marks = o.marks; calm = o.calm; is = ap (◌&& marking (flat_all rs ++ rest) NAMED NONE) (never (eqb b NAMED-EXPR)) ∙ o.is }
 
 -- ---- functions
-function-on : {f : Function} → WellFunction f → Few f → (b : ℕ) (ms : List ℕ) (rest : Cells) → eqb b NAMED-EXPR ≡ false → Onward (flat f) (expressions_named f) b ms rest
+function-on : {f : Function} → WellFunction f → Few f → (b : ℕ) (ms : List Bool) (rest : Cells) → eqb b NAMED-EXPR ≡ false → Onward (flat f) (expressions_named f) b ms rest
 unfolding flat
 function-on {f} w h b ms rest e =
     let E = flat_list EXPRESSIONS f.exprs in
@@ -193,20 +193,20 @@ function-on {f} w h b ms rest e =
     let q : rows_ok f.named NONE && true ≡ expressions_named f = and_right (rows_ok f.named NONE) ∙ function-rows f h in
     rw q at o₇
 
-functions_pass : {fs : List Function} → Each WellFunction fs → Each Few fs → (b : ℕ) (ms : List ℕ) → eqb b NAMED-EXPR ≡ false → marking (flat_all (map flat fs)) b ms ≡ functions_named fs
+functions_pass : {fs : List Function} → Each WellFunction fs → Each Few fs → (b : ℕ) (ms : List Bool) → eqb b NAMED-EXPR ≡ false → marking (flat_all (map flat fs)) b ms ≡ functions_named fs
 unfolding flat_all functions_named marking
 functions_pass each_none each_none b ms e = refl
 functions_pass (each_next {a = f} {l = fs} w ws) (each_next h hs) b ms e =
     let o = function-on w h b ms (flat_all (map flat fs)) e in
     o.is ∙ ap (expressions_named f &&◌) (functions_pass ws hs o.last o.marks o.calm)
 
-entry-on : {p : Entry} → WellEntry p → Few p.function → (b : ℕ) (ms : List ℕ) (rest : Cells) → eqb b NAMED-EXPR ≡ false → Onward (flat_entry p) (expressions_named p.function) b ms rest
+entry-on : {p : Entry} → WellEntry p → Few p.function → (b : ℕ) (ms : List Bool) (rest : Cells) → eqb b NAMED-EXPR ≡ false → Onward (flat_entry p) (expressions_named p.function) b ms rest
 unfolding flat_entry
 entry-on {p} w h b ms rest e =
     let o = quiet-on (entry-quiet w) b ms (flat p.function ++ rest) e in
     onward_append o (function-on w.function-ok h o.last o.marks rest o.calm)
 
-entries_pass : {ps : List Entry} → Each WellEntry ps → Each (λ p. Few p.function) ps → (b : ℕ) (ms : List ℕ) → eqb b NAMED-EXPR ≡ false → marking (flat_all (map flat_entry ps)) b ms ≡ entries_named ps
+entries_pass : {ps : List Entry} → Each WellEntry ps → Each (λ p. Few p.function) ps → (b : ℕ) (ms : List Bool) → eqb b NAMED-EXPR ≡ false → marking (flat_all (map flat_entry ps)) b ms ≡ entries_named ps
 unfolding flat_all entries_named marking
 entries_pass each_none each_none b ms e = refl
 entries_pass (each_next {a = p} {l = ps} w ws) (each_next h hs) b ms e =

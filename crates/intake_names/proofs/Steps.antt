@@ -30,7 +30,7 @@ each_rest : {A : Type 0} {P : A → Type 0} {x : A} {xs : List A} → Each P (x 
 each_rest (each_next p ps) = ps
 
 -- what is left from word i on, with the class before and the marks, is the whole
-pub record Marked (words tags : List ℕ) (end : ℕ) (whole : Bool) (marks : List ℕ) (b i : ℕ) : Type 0 where
+pub record Marked (words tags : List ℕ) (end : ℕ) (whole : Bool) (marks : List Bool) (b i : ℕ) : Type 0 where
   pub within : i ≤ end
   pub long : length marks ≡ 1024
   pub few : Each Small (between tags words i end)
@@ -38,9 +38,9 @@ pub record Marked (words tags : List ℕ) (end : ℕ) (whole : Bool) (marks : Li
 
 module _ (words tags : List ℕ) (at end : ℕ) (st : Stretch words tags at end) where
   pub marked_all : Each Small (between tags words at end) → Marked words tags end (marking (between tags words at end) 0 NONE) NONE 0 at
-  marked_all f = record { within = st.rising; long = length-replicate {A = ℕ} 1024 0; few = f; same = refl }
+  marked_all f = record { within = st.rising; long = length-replicate 1024 false; few = f; same = refl }
 
-  module _ (whole : Bool) (marks : List ℕ) (b i : ℕ) (l : Marked words tags end whole marks b i) where
+  module _ (whole : Bool) (marks : List Bool) (b i : ℕ) (l : Marked words tags end whole marks b i) where
     pub marked-none : end ≤ i → true ≡ whole
     unfolding marking
     marked-none h = rw (between_none tags words i end h) at l.same
@@ -52,7 +52,7 @@ module _ (words tags : List ℕ) (at end : ℕ) (st : Stretch words tags at end)
       first : Each Small ((get_or tags i 0, get_or words i 0) ∷ between tags words (suc i) end)
       first = rw here at l.few
 
-      opened-cell : not (unnamed b (get_or tags i 0) (get_or words i 0)) && elim (eqb (get_or tags i 0) NAMED) [ true ↦ marking (between tags words (suc i) end) (get_or tags i 0) NONE | false ↦ elim (eqb (get_or tags i 0) NAMED-EXPR) [ true ↦ eqb (get_or marks (get_or words i 0) 0) 0 && marking (between tags words (suc i) end) (get_or tags i 0) (set marks (get_or words i 0) 1) | false ↦ marking (between tags words (suc i) end) (get_or tags i 0) marks ] ] ≡ whole
+      opened-cell : not (unnamed b (get_or tags i 0) (get_or words i 0)) && elim (eqb (get_or tags i 0) NAMED) [ true ↦ marking (between tags words (suc i) end) (get_or tags i 0) NONE | false ↦ elim (eqb (get_or tags i 0) NAMED-EXPR) [ true ↦ not (get_or marks (get_or words i 0) false) && marking (between tags words (suc i) end) (get_or tags i 0) (set marks (get_or words i 0) true) | false ↦ marking (between tags words (suc i) end) (get_or tags i 0) marks ] ] ≡ whole
       unfolding marking
       opened-cell = rw here at l.same
 
@@ -60,18 +60,18 @@ module _ (words tags : List ℕ) (at end : ℕ) (st : Stretch words tags at end)
       unnamed_fails u is t = rw (sym is ∙ t) at opened-cell
 
       module _ (u : Bool) (is : u ≡ unnamed b (get_or tags i 0) (get_or words i 0)) (ok : u ≡ false) where
-        passed : elim (eqb (get_or tags i 0) NAMED) [ true ↦ marking (between tags words (suc i) end) (get_or tags i 0) NONE | false ↦ elim (eqb (get_or tags i 0) NAMED-EXPR) [ true ↦ eqb (get_or marks (get_or words i 0) 0) 0 && marking (between tags words (suc i) end) (get_or tags i 0) (set marks (get_or words i 0) 1) | false ↦ marking (between tags words (suc i) end) (get_or tags i 0) marks ] ] ≡ whole
+        passed : elim (eqb (get_or tags i 0) NAMED) [ true ↦ marking (between tags words (suc i) end) (get_or tags i 0) NONE | false ↦ elim (eqb (get_or tags i 0) NAMED-EXPR) [ true ↦ not (get_or marks (get_or words i 0) false) && marking (between tags words (suc i) end) (get_or tags i 0) (set marks (get_or words i 0) true) | false ↦ marking (between tags words (suc i) end) (get_or tags i 0) marks ] ] ≡ whole
         passed = rw (sym is ∙ ok) at opened-cell
 
         -- the cells after this one, with other marks
-        on : (ms : List ℕ) → length ms ≡ 1024 → marking (between tags words (suc i) end) (get_or tags i 0) ms ≡ whole → Marked words tags end whole ms (get_or tags i 0) (i + 1)
+        on : (ms : List Bool) → length ms ≡ 1024 → marking (between tags words (suc i) end) (get_or tags i 0) ms ≡ whole → Marked words tags end whole ms (get_or tags i 0) (i + 1)
         on ms n e = rw (add-one i) (record { within = h; long = n; few = each_rest first; same = e })
 
         pub list_next : (get_or tags i 0) ≡ NAMED → Marked words tags end whole NONE (get_or tags i 0) (i + 1)
-        list_next e = on NONE (length-replicate {A = ℕ} 1024 0) (rw (eq-eqb (get_or tags i 0) NAMED e) at passed)
+        list_next e = on NONE (length-replicate 1024 false) (rw (eq-eqb (get_or tags i 0) NAMED e) at passed)
 
         module _ (d : (get_or tags i 0) ≡ NAMED → ⊥) where
-          unlisted : elim (eqb (get_or tags i 0) NAMED-EXPR) [ true ↦ eqb (get_or marks (get_or words i 0) 0) 0 && marking (between tags words (suc i) end) (get_or tags i 0) (set marks (get_or words i 0) 1) | false ↦ marking (between tags words (suc i) end) (get_or tags i 0) marks ] ≡ whole
+          unlisted : elim (eqb (get_or tags i 0) NAMED-EXPR) [ true ↦ not (get_or marks (get_or words i 0) false) && marking (between tags words (suc i) end) (get_or tags i 0) (set marks (get_or words i 0) true) | false ↦ marking (between tags words (suc i) end) (get_or tags i 0) marks ] ≡ whole
           unlisted = rw (ne_eqb (get_or tags i 0) NAMED d) at passed
 
           pub other-next : ((get_or tags i 0) ≡ NAMED-EXPR → ⊥) → Marked words tags end whole marks (get_or tags i 0) (i + 1)
@@ -81,11 +81,11 @@ module _ (words tags : List ℕ) (at end : ℕ) (st : Stretch words tags at end)
             pub in_marks : e < 1024
             in_marks = rw number ((each_first first).small x)
 
-            expr_left : eqb (get_or marks e 0) 0 && marking (between tags words (suc i) end) (get_or tags i 0) (set marks e 1) ≡ whole
+            expr_left : not (get_or marks e false) && marking (between tags words (suc i) end) (get_or tags i 0) (set marks e true) ≡ whole
             expr_left = rw number (rw (eq-eqb (get_or tags i 0) NAMED-EXPR x) at unlisted)
 
-            pub twice : (get_or marks e 0 ≡ 0 → ⊥) → false ≡ whole
-            twice q = rw (ne_eqb (get_or marks e 0) 0 q) at expr_left
+            pub twice : get_or marks e false ≡ true → false ≡ whole
+            twice q = rw q at expr_left
 
-            pub mark-next : get_or marks e 0 ≡ 0 → Marked words tags end whole (set marks e 1) (get_or tags i 0) (i + 1)
-            mark-next q = on (set marks e 1) (length-set marks e 1 ∙ l.long) (rw (eq-eqb (get_or marks e 0) 0 q) at expr_left)
+            pub mark-next : get_or marks e false ≡ false → Marked words tags end whole (set marks e true) (get_or tags i 0) (i + 1)
+            mark-next q = on (set marks e true) (length-set marks e true ∙ l.long) (rw q at expr_left)

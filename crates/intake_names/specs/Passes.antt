@@ -8,16 +8,16 @@ use Rattle.model.specs.Table.{NAME, NAMED-EXPR, NAMED}
 unfoldable pub unnamed : ℕ → ℕ → ℕ → Bool
 unnamed b s w = eqb b NAMED-EXPR && (eqb s NAME && eqb w 0)
 
-abbrev pub NONE : List ℕ
-NONE = replicate 1024 0
+abbrev pub NONE : List Bool
+NONE = replicate 1024 false
 
-unfoldable pub marking : Cells → ℕ → List ℕ → Bool
+unfoldable pub marking : Cells → ℕ → List Bool → Bool
 marking [] b ms = true
 marking (c ∷ cs) b ms =
     not (unnamed b (class c) (word c))
     && elim (eqb (class c) NAMED) [
       | true ↦ marking cs (class c) NONE
-      | false ↦ elim (eqb (class c) NAMED-EXPR) [ true ↦ eqb (get_or ms (word c) 0) 0 && marking cs (class c) (set ms (word c) 1) | false ↦ marking cs (class c) ms ]
+      | false ↦ elim (eqb (class c) NAMED-EXPR) [ true ↦ not (get_or ms (word c) false) && marking cs (class c) (set ms (word c) true) | false ↦ marking cs (class c) ms ]
     ]
 
 -- a named number has a mark

@@ -38,7 +38,7 @@ fn expressions(image: Image, at: usize, end: usize) -> bool
     requires each { Each Small (between image.tags.now image.words.now at end) }
     ensures { result ≡ marking (between image.entry.tags.now image.entry.words.now at end) 0 NONE }
 {
-    let mut marks = [0u8; 1024];
+    let mut marks = [false; 1024];
     let mut before = 0;
     for j in at..end {
         let s = image.tags[j];
@@ -47,13 +47,13 @@ fn expressions(image: Image, at: usize, end: usize) -> bool
             return false;
         }
         if s == NAMED {
-            marks = [0; 1024];
+            marks = [false; 1024];
         } else if s == NAMED_EXPR {
             let e = w as usize;
-            if marks[e] != 0 {
+            if marks[e] {
                 return false;
             }
-            marks[e] = 1;
+            marks[e] = true;
         }
         before = s;
     }
@@ -68,24 +68,11 @@ pub fn named(image: Image) -> bool
     let functions = offset(image.words, FUNCTIONS);
     let entries = offset(image.words, ENTRIES);
     let special = offset(image.words, SPECIAL);
-    // a ladder: of one `&&` of the seven tests the proof goes through six joins, at both its ends
-    if !present(image.words, FUNCTIONS) {
-        return false;
-    }
-    if !present(image.words, ENTRIES) {
-        return false;
-    }
-    if !expressions(image, functions, entries) {
-        return false;
-    }
-    if !expressions(image, entries, special) {
-        return false;
-    }
-    if !differ(image.words) {
-        return false;
-    }
-    if !distinct(image.words, FUNCTIONS) {
-        return false;
-    }
-    distinct(image.words, SPECIAL)
+    present(image.words, FUNCTIONS)
+        && present(image.words, ENTRIES)
+        && expressions(image, functions, entries)
+        && expressions(image, entries, special)
+        && differ(image.words)
+        && distinct(image.words, FUNCTIONS)
+        && distinct(image.words, SPECIAL)
 }

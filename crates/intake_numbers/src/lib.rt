@@ -80,8 +80,8 @@ pub fn all_functions<S, F: Fn(&mut S, usize, usize, usize) -> bool>(
     ensures { Passed (F.post fine) image.entry.words.now k head 0 scratch.old result scratch.new }
 {
     for i in 0..count(image.words, k) {
-        let at = image.record_at(k, i);
-        if !fine(scratch, at, at + head, image.record_end(k, i)) {
+        let (at, end) = image.record(k, i);
+        if !fine(scratch, at, at + head, end) {
             return false;
         }
     }

@@ -1,14 +1,13 @@
 -- A function record: where its expressions start, what its initialisers reach and where its body starts are what the pass over the body requires, and what it answers is the model's test.
-use mathlib.Core.Path.{◌≡◌, refl, sym, ap, ◌∙◌, fun_ext}
-use mathlib.Core.Bool.{Bool, true, ◌&&◌, not}
+use mathlib.Core.Path.{◌≡◌, refl, sym, ap, ◌∙◌, subst, fun_ext}
+use mathlib.Core.Bool.{Bool, true, false, ◌&&◌, not}
 use mathlib.Core.List.{List, [], ◌∷◌}
 use Prim.Native.Nat.{ℕ, zero, suc, ◌+◌, ◌*◌, ◌≤◌, ◌<◌}
 use native.Mathlib.Numerals.{add-one}
 use native.Mathlib.Omega.{arith}
-use lib.Dec.{eqb, ltb}
-use lib.ListN.{length, get_or, drop, replicate}
+use lib.ListN.{length, get_or, drop}
 use lib.Seq.{slice, sets, ext_get_or}
-use borrow.Author.Tests.{ne_eqb, lt-ltb, not-true}
+use borrow.Author.Tests.{not-true}
 use Rattle.theory_lists.specs.Booleans.{and_split, bool_same}
 use Rattle.model.specs.Outcome.{Cells, class, word}
 use Rattle.model.specs.Table.{counted, expression_row}
@@ -23,7 +22,8 @@ use Rattle.theory_image.specs.FunctionViews.{Held, Part, part_end, part_right, p
 use Rattle.theory_image.specs.Members.{each_at}
 use Rattle.intake_initialisers.specs.Lists.{Lists, Listed}
 use Rattle.intake_numbers.specs.Passes.{Framed}
-use Rattle.intake_initialisers.specs.Marks.{finds, on, inits, Visits, Work, Starting, Reaching, Reaches}
+use Rattle.intake_initialisers.specs.Marks.{finds, on, inits, unvisited, Visits, Work, Starting, Reaching, Reaches}
+use Rattle.intake_initialisers.specs.declared.Visited.{Visited}
 use Rattle.intake_initialisers.proofs.Reaching.{init_locals, init_exprs, init-after, init-end, all, starting, begun, many_is, many_few, end_in}
 use Rattle.intake_numbers.proofs.Framing.{lists_are}
 use Rattle.intake_statements.specs.Fine.{fine_b}
@@ -62,14 +62,6 @@ length-table : (n : ℕ) (ws ts st : List ℕ) (e : ℕ) → length (table_from 
 unfolding table_from
 length-table zero ws ts st e = refl
 length-table (suc n) ws ts st e = ap suc (length-table n ws ts st (suc e))
-
-on_is : (m : List ℕ) (y : ℕ) → on m y ≡ not (eqb (get_or m y 0) 0)
-unfolding on
-on_is m y = go (get_or m y 0)
-  where
-    go : (v : ℕ) → ltb 0 v ≡ not (eqb v 0)
-    go zero = refl
-    go (suc v) = lt-ltb 0 (suc v) (omega arith) ∙ sym (ap not (ne_eqb (suc v) 0 (λ q. omega arith)))
 
 -- ---- a function whose expressions start at the words st
 module _ {ws ts : List ℕ} {locals exprs end e : ℕ} {st : List ℕ} (f : Function) (ls : Lists ws ts locals exprs end f) (e-is : e ≡ get_or ws exprs 0) (sg : Starting f e (exprs + 1) st) where
@@ -130,29 +122,29 @@ module _ {ws ts : List ℕ} {locals exprs end e : ℕ} {st : List ℕ} (f : Func
       }
 
       -- ---- the answer is the model's
-      module _ (m l : List ℕ) (w : Work f e m l 0) where
-        marks_are : (y : ℕ) → marks ws ts st e m y ≡ marked (initials f) y
-        unfolding marks initial initials
-        marks_are y = rw exprs_are (bool_same (not (eqb (get_or m y 0) 0) && not (standing f.exprs y)) (marked (initials f) y) forth back)
+      module _ (v : Visited) (w : Work f v) (z : v.top ≡ 0) where
+        marks_are : (y : ℕ) → marks ws ts st e v.marks y ≡ marked (initials f) y
+        unfolding marks initial initials on
+        marks_are y = rw exprs_are (bool_same (get_or v.marks y false && not (standing f.exprs y)) (marked (initials f) y) forth back)
           where
-            forth : (not (eqb (get_or m y 0) 0) && not (standing f.exprs y)) ≡ true → marked (initials f) y ≡ true
+            forth : (get_or v.marks y false && not (standing f.exprs y)) ≡ true → marked (initials f) y ≡ true
             forth h =
-                let p = and_split (not (eqb (get_or m y 0) 0)) (not (standing f.exprs y)) h in
-                let q = w.only y (on_is m y ∙ p.0) in
-                initial-all f y (omega (arith, q.0, many)) q.1 (not-true (standing f.exprs y) p.1)
+                let p = and_split (get_or v.marks y false) (not (standing f.exprs y)) h in
+                let q = w.only y p.0 in
+                initial-all f y (omega (arith, q.0, w.many)) q.1 (not-true (standing f.exprs y) p.1)
 
-            back : marked (initials f) y ≡ true → (not (eqb (get_or m y 0) 0) && not (standing f.exprs y)) ≡ true
+            back : marked (initials f) y ≡ true → (get_or v.marks y false && not (standing f.exprs y)) ≡ true
             back h =
                 let i : y < length f.exprs = marked_in (reached_marks f) f.exprs y h in
                 let p = initial_is f y h in
-                let q : not (eqb (get_or m y 0) 0) ≡ true = sym (on_is m y) ∙ all f e m l w p.0 (omega (arith, many)) in
+                let q : get_or v.marks y false ≡ true = all f v w z p.0 (omega (arith, w.many)) in
                 rw (q, p.1)
 
-        pub scoped_is : (r : Bool) → r ≡ fine_b (exprs_of ws ts st e) (marks ws ts st e m) (block_of ws ts (named + 1 + 2 * k) end) in_body [] [] → r ≡ scoped f
+        pub scoped_is : (r : Bool) → r ≡ fine_b (exprs_of ws ts st e) (marks ws ts st e v.marks) (block_of ws ts (named + 1 + 2 * k) end) in_body [] [] → r ≡ scoped f
         unfolding scoped all_of seen
         scoped_is r h =
             h
-            ∙ ap (λ x. fine_b x (marks ws ts st e m) (block_of ws ts (named + 1 + 2 * k) end) in_body [] []) exprs_are
+            ∙ ap (λ x. fine_b x (marks ws ts st e v.marks) (block_of ws ts (named + 1 + 2 * k) end) in_body [] []) exprs_are
             ∙ ap (λ x. fine_b f.exprs x (block_of ws ts (named + 1 + 2 * k) end) in_body [] []) (fun_ext marks_are)
             ∙ ap (λ x. fine_b f.exprs (marked (initials f)) x in_body [] []) (block_is ws ts (named + 1 + 2 * k) end f.body body-held)
             ∙ sym (restated f.exprs (marked (initials f)) f.body)
@@ -172,37 +164,41 @@ module _ (words tags : List ℕ) (locals exprs end : ℕ) (pre : Known words tag
     pub known_few : e ≤ 1024
     known_few = many_few pre.lists e e-is
 
-    module _ (st₀ l₀ u₀ : List ℕ) (lent : Lent st₀ l₀ u₀) (m l : List ℕ) (t : ℕ) (v : Visits e (inits count (drop (locals + 1) words)) (replicate 1024 0) l₀ 0 m l t) (st : List ℕ) (st_is : st ≡ sets st₀ 0 (finds (exprs + 1) (slice (exprs + 1) end tags))) where
+    module _ (st₀ l₀ u₀ : List ℕ) (lent : Lent st₀ l₀ u₀) (st : List ℕ) (st_is : st ≡ sets st₀ 0 (finds (exprs + 1) (slice (exprs + 1) end tags))) where
       starts : (f : Function) → Lists words tags locals exprs end f → Starting f e (exprs + 1) st
       starts f ls = starting ls e e-is st₀ st lent.starts_long st_is
-
-      work : (f : Function) → Lists words tags locals exprs end f → Work f e m l t
-      work f ls = begun ls e e-is count count_is l₀ m l t lent.list_long v
-
-      pub known_reach : Reaching words tags st m l t e
-      known_reach = record {
-        function = pre.function;
-        locals = locals;
-        exprs = exprs;
-        end = end;
-        lists = pre.lists;
-        starting = starts pre.function pre.lists;
-        work = work pre.function pre.lists;
-      }
 
       pub known-named : (named : ℕ) → (named ≡ get_or st e 0) → named < 16384
       known-named named is = named_in pre.function pre.lists e-is (starts pre.function pre.lists) named is
 
-      module _ (named : ℕ) (named_is : named ≡ get_or st e 0) (k : ℕ) (k_is : k ≡ get_or words named 0) where
-        pub known-body : BlockHere words tags st e (named + 1 + 2 * k) end end
-        known-body = body-here pre.function pre.lists e-is (starts pre.function pre.lists) named named_is k k_is pre.ends
+      module _ (v : Visited) (a : Visits (inits count (drop (locals + 1) words)) (unvisited e l₀) v) where
+        starts_of : (f : Function) → Lists words tags locals exprs end f → Starting f v.count (exprs + 1) st
+        starts_of f ls = subst (λ n. Starting f n (exprs + 1) st) (sym a.count_same) (starts f ls)
 
-        module _ (q : Bool) (m₁ l₁ : List ℕ) (got : Reaches q words tags st m l t e m₁ l₁) where
-          left : (f : Function) → Lists words tags locals exprs end f → initialised f ≡ true → Work f e m₁ l₁ 0
-          left f ls i = got.left (got.same f locals exprs end ls (starts f ls) (work f ls) ∙ i) f locals exprs end ls (starts f ls) (work f ls)
+        work : (f : Function) → Lists words tags locals exprs end f → Work f v
+        work f ls = begun ls e e-is count count_is l₀ lent.list_long v a
 
-          pub known-scoped : (r : Bool) → r ≡ fine_b (exprs_of words tags st e) (marks words tags st e m₁) (block_of words tags (named + 1 + 2 * k) end) in_body [] [] → Tested r words tags locals exprs end
-          known-scoped r is = record { same = λ f ls i. scoped_is f ls e-is (starts f ls) named named_is k k_is m₁ l₁ (left f ls i) r is }
+        pub known_reach : Reaching words tags st v
+        known_reach = record {
+          function = pre.function;
+          locals = locals;
+          exprs = exprs;
+          end = end;
+          lists = pre.lists;
+          starting = starts_of pre.function pre.lists;
+          work = work pre.function pre.lists;
+        }
+
+        module _ (named : ℕ) (named_is : named ≡ get_or st e 0) (k : ℕ) (k_is : k ≡ get_or words named 0) where
+          pub known-body : BlockHere words tags st e (named + 1 + 2 * k) end end
+          known-body = body-here pre.function pre.lists e-is (starts pre.function pre.lists) named named_is k k_is pre.ends
+
+          module _ (q : Bool) (v₁ : Visited) (got : Reaches q words tags st v v₁) where
+            left : (f : Function) → Lists words tags locals exprs end f → initialised f ≡ true → Work f v₁ × (v₁.top ≡ 0)
+            left f ls i = got.left (got.same f locals exprs end ls (starts_of f ls) (work f ls) ∙ i) f locals exprs end ls (starts_of f ls) (work f ls)
+
+            pub known-scoped : (r : Bool) → r ≡ fine_b (exprs_of words tags st e) (marks words tags st e v₁.marks) (block_of words tags (named + 1 + 2 * k) end) in_body [] [] → Tested r words tags locals exprs end
+            known-scoped r is = record { same = λ f ls i. scoped_is f ls e-is (starts f ls) named named_is k k_is v₁ (left f ls i).0 (left f ls i).1 r is }
 
 -- ---- from the record's start on
 module _ (words tags : List ℕ) (at from end : ℕ) (pre : Stated words tags at from end) where

@@ -8,17 +8,17 @@ ghost use Rattle.intake_scope.specs.Functions.{Known, Tested, Stated, Scoped, In
 
 use base_views::{ENTRIES, ENTRY_HEAD, FUNCTIONS, Image, expressions_at, locals_at};
 use intake_blocks::body;
-use intake_initialisers::{places, reach, roots};
+use intake_initialisers::{Visited, places};
 use intake_numbers::all_functions;
 use intake_statements::Expressions;
 
-// The large arrays that a pass works in, made once for an image and used by one function after the other: where expressions start, which are still to be
-// visited, and up to which word each is in scope. The first two are written before they are read, and each body clears as much of the last as its function
-// has expressions.
+// The large arrays that a pass works in, made once for an image and used by one function after the other: where expressions start, what is visited of
+// them, and up to which word each is in scope. The first is written before it is read, each function clears the marks of the second, and each body as
+// much of the last as its function has expressions.
 #[derive(Drop)]
 struct Scratch {
     starts: [u32; 1025],
-    list: [u32; 1024],
+    visited: Visited,
     until: [usize; 1024],
 }
 
@@ -27,26 +27,12 @@ fn scoped(image: Image, scratch: &mut Scratch, locals: usize, exprs: usize, end:
     requires { Known image.words.now image.tags.now locals exprs end }
     ensures { Tested result image.entry.words.now image.entry.tags.now locals exprs end }
 {
-    let mut initial = [0u8; 1024];
     let count = image.words[locals] as usize;
     let e = image.words[exprs] as usize;
-    let top = roots(
-        image.words,
-        locals + 1,
-        count,
-        &mut initial,
-        &mut scratch.list,
-        e,
-    );
     places(image.tags, exprs + 1, end, &mut scratch.starts);
-    reach(
-        image,
-        &scratch.starts,
-        &mut initial,
-        &mut scratch.list,
-        top,
-        e,
-    );
+    scratch.visited.begin(e);
+    scratch.visited.roots(image.words, locals + 1, count);
+    scratch.visited.reach(image, &scratch.starts);
     let named = scratch.starts[e] as usize;
     let at = named + 1 + 2 * (image.words[named] as usize);
     // lent first: the borrow checker does not cover it lent after the arrays that go into the struct
@@ -54,7 +40,7 @@ fn scoped(image: Image, scratch: &mut Scratch, locals: usize, exprs: usize, end:
     let expressions = Expressions {
         image,
         starts: &scratch.starts,
-        initial: &initial,
+        initial: &scratch.visited.marks,
         count: e,
     };
     body(expressions, until, at, end)
@@ -94,7 +80,12 @@ pub fn in_scope(image: Image) -> bool
 {
     let mut scratch = Scratch {
         starts: [0; 1025],
-        list: [0; 1024],
+        visited: Visited {
+            marks: [false; 1024],
+            list: [0; 1024],
+            top: 0,
+            count: 0,
+        },
         until: [0; 1024],
     };
     section(image, &mut scratch, FUNCTIONS, 0) && section(image, &mut scratch, ENTRIES, ENTRY_HEAD)

@@ -230,19 +230,19 @@ emitted_moves k h = go (standing_kind k) refl
     go true q = absurd_bool h (rw (emitted_kind, q))
     go false q = q
 
-module _ (ws ts st : List ℕ) (count : ℕ) (ini : List ℕ) (e : ℕ) where
-  pub marks_not : get_or ini e 0 ≡ 0 → marks ws ts st count ini e ≡ false
+module _ (ws ts st : List ℕ) (count : ℕ) (ini : List Bool) (e : ℕ) where
+  pub marks_not : get_or ini e false ≡ false → marks ws ts st count ini e ≡ false
   unfolding marks
-  marks_not h = rw (marks, eq-eqb (get_or ini e 0) 0 h)
+  marks_not h = rw (marks, h)
 
-  pub marks_is : (get_or ini e 0 ≡ 0 → ⊥) → emitted_kind (kind_at (exprs_of ws ts st count) e) ≡ true → marks ws ts st count ini e ≡ true
+  pub marks_is : get_or ini e false ≡ true → emitted_kind (kind_at (exprs_of ws ts st count) e) ≡ true → marks ws ts st count ini e ≡ true
   unfolding marks standing
-  marks_is h k = rw (marks, ne_eqb (get_or ini e 0) 0 h, emitted_moves (kind_at (exprs_of ws ts st count) e) k)
+  marks_is h k = rw (marks, h, emitted_moves (kind_at (exprs_of ws ts st count) e) k)
 
 pub reads-to : (ws ts st : List ℕ) (count e : ℕ) → Exprs ws ts st count → e < count → get_or st (e + 1) 0 ≤ 16384
 reads-to ws ts st count e x i = rw (add-one e) (x.placed.within e i)
 
-module _ (ws ts st ini u : List ℕ) (count at keep e : ℕ) (x : Exprs ws ts st count) (h : at < keep) (i : e < count) where
+module _ (ws ts st : List ℕ) (ini : List Bool) (u : List ℕ) (count at keep e : ℕ) (x : Exprs ws ts st count) (h : at < keep) (i : e < count) where
   module _ (kd : ℕ) (kd-is : kd ≡ get_or ws (get_or st e 0) 0) (em : Bool) (em-is : em ≡ emitted_kind kd) where
     emitted_is : emitted_kind (kind_at (exprs_of ws ts st count) e) ≡ em
     emitted_is = ap emitted_kind (kind_in ws ts st count x e i ∙ sym kd-is) ∙ sym em-is
@@ -260,7 +260,7 @@ module _ (ws ts st ini u : List ℕ) (count at keep e : ℕ) (x : Exprs ws ts st
         new : {ρ δ : List ℕ} → Scope count at keep ρ δ u → has δ e ≡ false
         new s = s.done e i ∙ le-ltb 0 (get_or u e 0) (omega arith)
 
-        pub evaluated_initial : (get_or ini e 0 ≡ 0 → ⊥) → FoundE ws ts st ini count at keep e u (set u e 1) true
+        pub evaluated_initial : get_or ini e false ≡ true → FoundE ws ts st ini count at keep e u (set u e 1) true
         unfolding one_e
         evaluated_initial n = record {
           found = λ ρ δ s. record {
@@ -270,7 +270,7 @@ module _ (ws ts st ini u : List ℕ) (count at keep e : ℕ) (x : Exprs ws ts st
           };
         }
 
-        module _ (m : get_or ini e 0 ≡ 0) (r : Bool) (r-is : r ≡ all_seen (ops_of (cells_in ws ts (get_or st e 0) (get_or st (e + 1) 0))) (visible_at ws st u count at)) where
+        module _ (m : get_or ini e false ≡ false) (r : Bool) (r-is : r ≡ all_seen (ops_of (cells_in ws ts (get_or st e 0) (get_or st (e + 1) 0))) (visible_at ws st u count at)) where
           reads_is : (ρ δ : List ℕ) → Scope count at keep ρ δ u → all_vis (standing (exprs_of ws ts st count)) ρ (ops (exprs_of ws ts st count) e) ≡ r
           unfolding ops record_of
           reads_is ρ δ s =
@@ -294,7 +294,7 @@ module _ (ws ts st ini u : List ℕ) (count at keep e : ℕ) (x : Exprs ws ts st
           }
 
 -- ---- an Emit
-pub record Emits (ws ts st ini u₀ : List ℕ) (count at keep a b : ℕ) (ρ δ u : List ℕ) (e : ℕ) : Type 0 where
+pub record Emits (ws ts st : List ℕ) (ini : List Bool) (u₀ : List ℕ) (count at keep a b : ℕ) (ρ δ u : List ℕ) (e : ℕ) : Type 0 where
   pub ρ' : List ℕ
   pub δ' : List ℕ
   pub scope : Scope count at keep ρ' δ' u
@@ -303,7 +303,7 @@ pub record Emits (ws ts st ini u₀ : List ℕ) (count at keep a b : ℕ) (ρ δ
   pub adds : add_e (live (up_from (b - e) e) (marks ws ts st count ini)) ρ' ≡ add_e (live (up_from (b - a) a) (marks ws ts st count ini)) ρ
   pub dones : add_e (up_from (b - e) e) δ' ≡ add_e (up_from (b - a) a) δ
 
-pub record Emitting (ws ts st ini u₀ : List ℕ) (count at keep a b : ℕ) (u : List ℕ) (e : ℕ) : Type 0 where
+pub record Emitting (ws ts st : List ℕ) (ini : List Bool) (u₀ : List ℕ) (count at keep a b : ℕ) (u : List ℕ) (e : ℕ) : Type 0 where
   pub going : (ρ δ : List ℕ) → Scope count at keep ρ δ u₀ → Emits ws ts st ini u₀ count at keep a b ρ δ u e
 
 up_next : (b e : ℕ) → e < b → up_from (b - e) e ≡ e ∷ up_from (b - (e + 1)) (e + 1)
@@ -330,7 +330,7 @@ done_next : (e : ℕ) (es δ : List ℕ) → add_e (e ∷ es) δ ≡ add_e es (e
 unfolding add_e
 done_next e es δ = refl
 
-module _ (ws ts st ini u₀ : List ℕ) (count at keep a b : ℕ) where
+module _ (ws ts st : List ℕ) (ini : List Bool) (u₀ : List ℕ) (count at keep a b : ℕ) where
   pub emit_begin : Emitting ws ts st ini u₀ count at keep a b u₀ a
   emit_begin = record { going = λ ρ δ s. record { ρ' = ρ; δ' = δ; scope = s; kept = kept-all keep u₀; left = refl; adds = refl; dones = refl } }
 

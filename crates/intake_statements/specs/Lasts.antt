@@ -48,13 +48,13 @@ fits_result xs k f o = elim (eqb k 15) [ true ↦ call_result xs f o | false ↦
 
 -- ---- what is found of a statement without blocks
 -- expression e of an Emit
-pub record FoundE (ws ts st ini : List ℕ) (count at keep e : ℕ) (u₀ u : List ℕ) (r : Bool) : Type 0 where
+pub record FoundE (ws ts st : List ℕ) (ini : List Bool) (count at keep e : ℕ) (u₀ u : List ℕ) (r : Bool) : Type 0 where
   pub found : (ρ δ : List ℕ) → Scope count at keep ρ δ u₀ → Tells count at keep u₀ u r (one_e (exprs_of ws ts st count) (marks ws ts st count ini) e ρ δ) (next_e (exprs_of ws ts st count) (marks ws ts st count ini) e ρ) (e ∷ δ)
 
 abbrev pub range_of : ℕ → ℕ → List ℕ
 range_of a b = in_range (record { from = a; to = b })
 
-pub record FoundR (ws ts st ini : List ℕ) (count at keep a b : ℕ) (u₀ u : List ℕ) (r : Bool) : Type 0 where
+pub record FoundR (ws ts st : List ℕ) (ini : List Bool) (count at keep a b : ℕ) (u₀ u : List ℕ) (r : Bool) : Type 0 where
   pub found : (ρ δ : List ℕ) → Scope count at keep ρ δ u₀
       → Tells count at keep u₀ u r (fine_e (exprs_of ws ts st count) (marks ws ts st count ini) (range_of a b) ρ δ) (add_e (live (range_of a b) (marks ws ts st count ini)) ρ) (add_e (range_of a b) δ)
 

@@ -1,5 +1,5 @@
 -- Words and tags seen as cells, and the trees in them: a block or a statement from one word to another, the table of a function's expressions.
-use Rattle.std.specs.Prelude.{◌≡◌, Bool, ◌&&◌, not, List, [], ◌∷◌, map, ℕ, zero, suc, ◌+◌, ◌-◌, ◌≤◌, ◌<◌, eqb, length, get_or}
+use Rattle.std.specs.Prelude.{◌≡◌, Bool, false, ◌&&◌, not, List, [], ◌∷◌, map, ℕ, zero, suc, ◌+◌, ◌-◌, ◌≤◌, ◌<◌, length, get_or}
 use Rattle.model.specs.Outcome.{Cells, word, Outcome, fits, misfit, unknown}
 use Rattle.model.specs.Table.{expression_row, TO}
 use Rattle.model.specs.Tree.{Stmt, stmt, kill, Block, end, Range, flat_s, flat_block, statement, block_at, DEPTH}
@@ -77,5 +77,5 @@ pub record Exprs (ws ts st : List ℕ) (count : ℕ) : Type 0 where
   pub lays : (e : ℕ) → e < count → Lays expression_row (record_of ws ts st e)
 
 -- the initialiser expressions: those that are marked and not standing
-unfoldable pub marks : List ℕ → List ℕ → List ℕ → ℕ → List ℕ → ℕ → Bool
-marks ws ts st count ini e = not (eqb (get_or ini e 0) 0) && not (standing (exprs_of ws ts st count) e)
+unfoldable pub marks : List ℕ → List ℕ → List ℕ → ℕ → List Bool → ℕ → Bool
+marks ws ts st count ini e = get_or ini e false && not (standing (exprs_of ws ts st count) e)

@@ -23,7 +23,7 @@ use base_views::Image;
 pub struct Expressions<'a> {
     pub image: Image<'a>,
     pub starts: &'a [u32; 1025],
-    pub initial: &'a [u8; 1024],
+    pub initial: &'a [bool; 1024],
     pub count: usize,
 }
 
@@ -82,7 +82,7 @@ fn evaluated(
 {
     let from = expressions.starts[e] as usize;
     let to = expressions.starts[e + 1] as usize;
-    let initialiser = expressions.initial[e] != 0;
+    let initialiser = expressions.initial[e];
     let fine = emits(kind(expressions, e))
         && until[e] == 0
         && (initialiser || reads(expressions, until, at, from, to));

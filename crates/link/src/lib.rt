@@ -6,16 +6,16 @@ ghost use Rattle.model.specs.Refusals.{answer_by};
 ghost use Rattle.model.specs.Image.{ScratchLengths, LinkEnsures};
 ghost use Rattle.base_refusals.specs.Numbers.{ended};
 
-use base_refusals::{Refusal, answer};
+use base_refusals::Refusal;
 use base_views::Image;
 use base_words::{Tags, Words};
-use derive_state::{Buckets, DerivedMut, Log, LogTags, Maps, StackRows, Starts};
+use derive_state::{DerivedMut, StackRows};
 use link_words::link_in_order;
 use order_callees::order_of;
 
 // The image linked into the output, in arrays that the caller provides: the bytes written, or the refusal. They may hold anything before, and hold anything after.
 // Nothing is required of `maps` and `buckets`: they are overwritten before use. Words and tags are two arrays that intake fills, and the words serve twice.
-fn linked_in(
+pub fn link_in(
     image: &[u8],
     output: &mut [u8],
     words: &mut Words,
@@ -36,36 +36,8 @@ fn linked_in(
     link_in_order(words, tags, n, &order, output, derived, stacks)
 }
 
-// The same, its answer as one number: low half the refusal, 0 accepted; high half the bytes written, or with 12 the functions left.
-// A number and no `Result`, since C reads one number; and the arrays one by one, as C lends them.
-pub fn link_in(
-    image: &[u8],
-    output: &mut [u8],
-    words: &mut Words,
-    tags: &mut Tags,
-    log: &mut Log,
-    logtags: &mut LogTags,
-    starts: &mut Starts,
-    maps: &mut Maps,
-    buckets: &mut Buckets,
-    stacks: &mut StackRows,
-) -> u64
-    requires words_len { (length words.old ≡ 16384) × (length tags.old ≡ 16384) }
-    requires scratch_lengths { ScratchLengths log.old logtags.old starts.old stacks.old }
-    ensures { LinkEnsures result output.old output.new image.now }
-{
-    let mut derived = DerivedMut {
-        log,
-        logtags,
-        starts,
-        maps,
-        buckets,
-    };
-    answer(linked_in(image, output, words, tags, &mut derived, stacks))
-}
-
-// The bytes written or the refusal, in arrays of its own.
-pub fn linked(image: &[u8], output: &mut [u8]) -> Result<u32, Refusal>
+// The same, in arrays of its own.
+pub fn link(image: &[u8], output: &mut [u8]) -> Result<u32, Refusal>
     ensures { LinkEnsures (answer_by (λ v. v) (ended result)) output.old output.new image.now }
 {
     let mut derived = DerivedMut {
@@ -75,7 +47,7 @@ pub fn linked(image: &[u8], output: &mut [u8]) -> Result<u32, Refusal>
         maps: &mut [[0; 512]; 6],
         buckets: &mut [0; 16384],
     };
-    linked_in(
+    link_in(
         image,
         output,
         &mut [0; 16384],
@@ -83,12 +55,4 @@ pub fn linked(image: &[u8], output: &mut [u8]) -> Result<u32, Refusal>
         &mut derived,
         &mut [[0; 16384]; 4],
     )
-}
-
-// The same as one number.
-// A number and no `Result`, since C reads one number.
-pub fn link(image: &[u8], output: &mut [u8]) -> u64
-    ensures { LinkEnsures result output.old output.new image.now }
-{
-    answer(linked(image, output))
 }

@@ -5,12 +5,8 @@
 // The linked image, or why there is none.
 fn answer(rt: &(impl Print + Eprint), image: &[u8]) {
     let mut output = [0; 65537];
-    match link::linked(image, &mut output) {
-        Ok(count) => {
-            // no clause says that the count is at most the length
-            let n = output.len().min(count as usize);
-            program_streams::write(rt, "link_image", &output[..n]);
-        }
+    match link::link(image, &mut output) {
+        Ok(count) => program_streams::write(rt, "link_image", &output[..count as usize]),
         Err(refusal) => program_streams::refused(rt, "link_image", refusal),
     }
 }

@@ -48,7 +48,7 @@ unfolding st_of count tab_of
 types_many words special log logtags starts maps buckets e K = tab_long log logtags starts maps buckets e K 1 (omega arith)
 
 -- ---- the next function
-module _ (words tags targets : List ℕ) (n : ℕ) (order : List ℕ) (all : ℕ) (S : Sequence words n order all) (log₀ logtags₀ : List ℕ) (starts₀ maps₀ : List (List ℕ)) (buckets₀ special : List ℕ) (e : Sizes) (L : ValidSession true n 0 words tags targets log₀ logtags₀ starts₀ maps₀ buckets₀ special e)
+module _ (words tags : List ℕ) (n : ℕ) (order : List ℕ) (all : ℕ) (S : Sequence words n order all) (log₀ logtags₀ : List ℕ) (starts₀ maps₀ : List (List ℕ)) (buckets₀ special : List ℕ) (e : Sizes) (L : ValidSession true n 0 words tags log₀ logtags₀ starts₀ maps₀ buckets₀ special e)
     (f : ℕ) (is : List ℕ) (R : Roomy (mod_of words n) (f ∷ is) (st_of words log₀ logtags₀ starts₀ maps₀ special e)) where
   abbrev m : Module
   m = mod_of words n
@@ -64,7 +64,7 @@ module _ (words tags targets : List ℕ) (n : ℕ) (order : List ℕ) (all : ℕ
   low = R.0
 
   pub next_low : f < count_at 6 words
-  next_low = omega (arith, low, functions_are n 0 words tags targets log₀ logtags₀ starts₀ maps₀ buckets₀ special e L)
+  next_low = omega (arith, low, functions_are n 0 words tags log₀ logtags₀ starts₀ maps₀ buckets₀ special e L)
 
   not_over : Over 0 next → ⊥
   unfolding Roomy
@@ -74,13 +74,13 @@ module _ (words tags targets : List ℕ) (n : ℕ) (order : List ℕ) (all : ℕ
   off_rings = none_ringing (mod_of words n) (take all order) S.is (f ∷ callees (function (mod_of words n) f)) s
 
   appends : append_s 0 (mod_of words n) (follow_s 0 (mod_of words n) all) f s ≡ next
-  appends = append-same n 0 words tags targets log₀ logtags₀ starts₀ maps₀ buckets₀ special e L f all next_low S.counts off_rings
+  appends = append-same n 0 words tags log₀ logtags₀ starts₀ maps₀ buckets₀ special e L f all next_low S.counts off_rings
 
   pub next-nested : NestedF words n log₀ logtags₀ starts₀ maps₀ e 0 all (function (mod_of words n) f)
-  next-nested = nested-function n 0 words tags targets log₀ logtags₀ starts₀ maps₀ buckets₀ special e L f all next_low S.counts off_rings
+  next-nested = nested-function n 0 words tags log₀ logtags₀ starts₀ maps₀ buckets₀ special e L f all next_low S.counts off_rings
 
   here : At (source (mod_of words n)) s
-  here = at n 0 words tags targets log₀ logtags₀ starts₀ maps₀ buckets₀ special e L
+  here = at n 0 words tags log₀ logtags₀ starts₀ maps₀ buckets₀ special e L
 
   next-at : At (source (mod_of words n)) next
   next-at = function-at here f low off_rings
@@ -89,7 +89,7 @@ module _ (words tags targets : List ℕ) (n : ℕ) (order : List ℕ) (all : ℕ
     pub next-room : r.full ≡ true → ⊥
     next-room q =
         let z : size_r (table_of log₀ logtags₀ starts₀ e.counts 7) + (e.exprtop + e.bodytop) ≡ 0 = omega (arith, (none-held log₀ logtags₀ starts₀ e.counts L.no_entries).1, L.lowest.0, L.lowest.1) in
-        not_over (subst (λ (y : Derived). Over 0 y) appends (subst (λ (k : ℕ). Over k (append_s 0 (mod_of words n) (follow_s 0 (mod_of words n) all) f s)) z (N.over q special (ready-function n 0 words tags targets log₀ logtags₀ starts₀ maps₀ buckets₀ special e L f all next_low S.counts off_rings))))
+        not_over (subst (λ (y : Derived). Over 0 y) appends (subst (λ (k : ℕ). Over k (append_s 0 (mod_of words n) (follow_s 0 (mod_of words n) all) f s)) z (N.over q special (ready-function n 0 words tags log₀ logtags₀ starts₀ maps₀ buckets₀ special e L f all next_low S.counts off_rings))))
 
     module _ (q : r.full ≡ false) where
       next-same : next ≡ st_of words log logtags starts maps special r
@@ -105,12 +105,11 @@ module _ (words tags targets : List ℕ) (n : ℕ) (order : List ℕ) (all : ℕ
           let h : count s.recs types ≤ count (st_of words log logtags starts maps special r).recs types = subst (λ (y : Derived). count s.recs types ≤ count y.recs types) next-same g in
           omega (arith, h, types_many words special log₀ logtags₀ starts₀ maps₀ buckets₀ e L.kept, types_many words special log logtags starts maps buckets r (N.kept q))
 
-      pub next-live : ValidSession true n 0 words tags targets log logtags starts maps buckets special r
+      pub next-live : ValidSession true n 0 words tags log logtags starts maps buckets special r
       next-live = record {
         reached = next-reached;
         kept = N.kept q;
         specials = specials_more (N.along q).pairs-same more-types L.specials;
-        targets_are = L.targets_are;
         words_long = L.words_long;
         tape_long = L.tape_long;
         taped = L.taped;
@@ -134,22 +133,22 @@ never true h = absurd (h refl)
 never false h = refl
 
 -- at function i: the session is valid, and what is left to append gives the whole
-pub record Turn (words tags targets : List ℕ) (n : ℕ) (order : List ℕ) (all : ℕ) (whole : Derived) (i : ℕ) (log logtags : List ℕ) (starts maps : List (List ℕ)) (buckets special : List ℕ) (stacks : List (List ℕ)) (e : Sizes) : Type 0 where
+pub record Turn (words tags : List ℕ) (n : ℕ) (order : List ℕ) (all : ℕ) (whole : Derived) (i : ℕ) (log logtags : List ℕ) (starts maps : List (List ℕ)) (buckets special : List ℕ) (stacks : List (List ℕ)) (e : Sizes) : Type 0 where
   pub upto : i ≤ all
-  pub live : ValidSession true n 0 words tags targets log logtags starts maps buckets special e
+  pub live : ValidSession true n 0 words tags log logtags starts maps buckets special e
   pub stacks_are : Stacks stacks e
   pub roomy : Roomy (mod_of words n) (slice i all order) (st_of words log logtags starts maps special e)
   pub left : append_all (slice i all order) 0 (mod_of words n) (st_of words log logtags starts maps special e) ≡ whole
 
-module _ (words tags targets : List ℕ) (n : ℕ) (order : List ℕ) (all : ℕ) (S : Sequence words n order all) where
-  module _ (log logtags : List ℕ) (starts maps : List (List ℕ)) (buckets special : List ℕ) (stacks : List (List ℕ)) (e : Sizes) (L : ValidSession true n 0 words tags targets log logtags starts maps buckets special e) where
+module _ (words tags : List ℕ) (n : ℕ) (order : List ℕ) (all : ℕ) (S : Sequence words n order all) where
+  module _ (log logtags : List ℕ) (starts maps : List (List ℕ)) (buckets special : List ℕ) (stacks : List (List ℕ)) (e : Sizes) (L : ValidSession true n 0 words tags log logtags starts maps buckets special e) where
     pub few_all : all ≤ 256
-    few_all = omega (arith, S.counts, functions_are n 0 words tags targets log logtags starts maps buckets special e L, few (L.taped refl))
+    few_all = omega (arith, S.counts, functions_are n 0 words tags log logtags starts maps buckets special e L, few (L.taped refl))
 
-    pub turn-first : Stacks stacks e → Roomy (mod_of words n) (take all order) (st_of words log logtags starts maps special e) → Turn words tags targets n order all (append_all (take all order) 0 (mod_of words n) (st_of words log logtags starts maps special e)) 0 log logtags starts maps buckets special stacks e
+    pub turn-first : Stacks stacks e → Roomy (mod_of words n) (take all order) (st_of words log logtags starts maps special e) → Turn words tags n order all (append_all (take all order) 0 (mod_of words n) (st_of words log logtags starts maps special e)) 0 log logtags starts maps buckets special stacks e
     turn-first K R = record { upto = omega arith; live = L; stacks_are = K; roomy = R; left = refl }
 
-  module _ (whole : Derived) (i : ℕ) (log₀ logtags₀ : List ℕ) (starts₀ maps₀ : List (List ℕ)) (buckets₀ special : List ℕ) (stacks₀ : List (List ℕ)) (e : Sizes) (A : Turn words tags targets n order all whole i log₀ logtags₀ starts₀ maps₀ buckets₀ special stacks₀ e) where
+  module _ (whole : Derived) (i : ℕ) (log₀ logtags₀ : List ℕ) (starts₀ maps₀ : List (List ℕ)) (buckets₀ special : List ℕ) (stacks₀ : List (List ℕ)) (e : Sizes) (A : Turn words tags n order all whole i log₀ logtags₀ starts₀ maps₀ buckets₀ special stacks₀ e) where
     module _ (go : i < all) (f : ℕ) (fs : f ≡ get_or order i 0) where
       cons : slice i all order ≡ f ∷ slice (suc i) all order
       cons = slice-cons i all order 0 go (omega (arith, few_all log₀ logtags₀ starts₀ maps₀ buckets₀ special stacks₀ e A.live, S.long)) ∙ ap (λ (k : ℕ). k ∷ slice (suc i) all order) (sym fs)
@@ -157,27 +156,27 @@ module _ (words tags targets : List ℕ) (n : ℕ) (order : List ℕ) (all : ℕ
       roomy_cons : Roomy (mod_of words n) (f ∷ slice (suc i) all order) (st_of words log₀ logtags₀ starts₀ maps₀ special e)
       roomy_cons = subst (λ (l : List ℕ). Roomy (mod_of words n) l (st_of words log₀ logtags₀ starts₀ maps₀ special e)) cons A.roomy
 
-      pub turn_asks : Ground words tags targets n × (f < count_at 6 words) × NestedF words n log₀ logtags₀ starts₀ maps₀ e 0 all (function (mod_of words n) f) × ((e.full ≡ false) × (Stacks stacks₀ e)) × ValidArrays log₀ logtags₀ starts₀ maps₀ buckets₀ e
+      pub turn_asks : Ground words tags n × (f < count_at 6 words) × NestedF words n log₀ logtags₀ starts₀ maps₀ e 0 all (function (mod_of words n) f) × ((e.full ≡ false) × (Stacks stacks₀ e)) × ValidArrays log₀ logtags₀ starts₀ maps₀ buckets₀ e
       turn_asks =
-          (ground n 0 words tags targets log₀ logtags₀ starts₀ maps₀ buckets₀ special e A.live, next_low words tags targets n order all S log₀ logtags₀ starts₀ maps₀ buckets₀ special e A.live f (slice (suc i) all order) roomy_cons, next-nested words tags targets n order all S log₀ logtags₀ starts₀ maps₀ buckets₀ special e A.live f (slice (suc i) all order) roomy_cons, (A.live.going, A.stacks_are), A.live.kept)
+          (ground n 0 words tags log₀ logtags₀ starts₀ maps₀ buckets₀ special e A.live, next_low words tags n order all S log₀ logtags₀ starts₀ maps₀ buckets₀ special e A.live f (slice (suc i) all order) roomy_cons, next-nested words tags n order all S log₀ logtags₀ starts₀ maps₀ buckets₀ special e A.live f (slice (suc i) all order) roomy_cons, (A.live.going, A.stacks_are), A.live.kept)
 
       behind : (r : Sizes) (log logtags : List ℕ) (starts maps : List (List ℕ)) (buckets : List ℕ) (stacks : List (List ℕ)) → ImportFunctionEnsures words (ReadyF 0 (mod_of words n) (Ready 0 (mod_of words n) all) (follow_s 0 (mod_of words n) all) (function (mod_of words n) f)) (append_s 0 (mod_of words n) (follow_s 0 (mod_of words n) all) f) log₀ logtags₀ starts₀ maps₀ buckets₀ stacks₀ e r log logtags starts maps buckets stacks
-          → Turn words tags targets n order all whole (suc i) log logtags starts maps buckets special stacks r
+          → Turn words tags n order all whole (suc i) log logtags starts maps buckets special stacks r
       behind r log logtags starts maps buckets stacks N =
-          let q = never r.full (next-room words tags targets n order all S log₀ logtags₀ starts₀ maps₀ buckets₀ special e A.live f (slice (suc i) all order) roomy_cons stacks₀ r log logtags starts maps buckets stacks N) in
+          let q = never r.full (next-room words tags n order all S log₀ logtags₀ starts₀ maps₀ buckets₀ special e A.live f (slice (suc i) all order) roomy_cons stacks₀ r log logtags starts maps buckets stacks N) in
           record {
             upto = omega arith;
-            live = next-live words tags targets n order all S log₀ logtags₀ starts₀ maps₀ buckets₀ special e A.live f (slice (suc i) all order) roomy_cons stacks₀ r log logtags starts maps buckets stacks N q;
+            live = next-live words tags n order all S log₀ logtags₀ starts₀ maps₀ buckets₀ special e A.live f (slice (suc i) all order) roomy_cons stacks₀ r log logtags starts maps buckets stacks N q;
             stacks_are = N.stacks_are q;
-            roomy = next_roomy words tags targets n order all S log₀ logtags₀ starts₀ maps₀ buckets₀ special e A.live f (slice (suc i) all order) roomy_cons stacks₀ r log logtags starts maps buckets stacks N q;
-            left = next_left words tags targets n order all S log₀ logtags₀ starts₀ maps₀ buckets₀ special e A.live f (slice (suc i) all order) roomy_cons stacks₀ r log logtags starts maps buckets stacks N q ∙ sym (ap (λ (l : List ℕ). append_all l 0 (mod_of words n) (st_of words log₀ logtags₀ starts₀ maps₀ special e)) cons) ∙ A.left;
+            roomy = next_roomy words tags n order all S log₀ logtags₀ starts₀ maps₀ buckets₀ special e A.live f (slice (suc i) all order) roomy_cons stacks₀ r log logtags starts maps buckets stacks N q;
+            left = next_left words tags n order all S log₀ logtags₀ starts₀ maps₀ buckets₀ special e A.live f (slice (suc i) all order) roomy_cons stacks₀ r log logtags starts maps buckets stacks N q ∙ sym (ap (λ (l : List ℕ). append_all l 0 (mod_of words n) (st_of words log₀ logtags₀ starts₀ maps₀ special e)) cons) ∙ A.left;
           }
 
       pub turn-next : (r : Sizes) (log logtags : List ℕ) (starts maps : List (List ℕ)) (buckets : List ℕ) (stacks : List (List ℕ)) → ImportFunctionEnsures words (ReadyF 0 (mod_of words n) (Ready 0 (mod_of words n) all) (follow_s 0 (mod_of words n) all) (function (mod_of words n) f)) (append_s 0 (mod_of words n) (follow_s 0 (mod_of words n) all) f) log₀ logtags₀ starts₀ maps₀ buckets₀ stacks₀ e r log logtags starts maps buckets stacks
-          → Turn words tags targets n order all whole (i + 1) log logtags starts maps buckets special stacks r
-      turn-next r log logtags starts maps buckets stacks N = subst (λ (k : ℕ). Turn words tags targets n order all whole k log logtags starts maps buckets special stacks r) (let q : suc i ≡ i + 1 = omega arith in q) (behind r log logtags starts maps buckets stacks N)
+          → Turn words tags n order all whole (i + 1) log logtags starts maps buckets special stacks r
+      turn-next r log logtags starts maps buckets stacks N = subst (λ (k : ℕ). Turn words tags n order all whole k log logtags starts maps buckets special stacks r) (let q : suc i ≡ i + 1 = omega arith in q) (behind r log logtags starts maps buckets stacks N)
 
-    pub turn_last : all ≤ i → (log₁ logtags₁ : List ℕ) (starts₁ maps₁ : List (List ℕ)) (e₁ : Sizes) → whole ≡ append_all (take all order) 0 (mod_of words n) (st_of words log₁ logtags₁ starts₁ maps₁ special e₁) → AppendAllEnsures words tags targets n (take all order) log₁ logtags₁ starts₁ maps₁ e₁ e log₀ logtags₀ starts₀ maps₀ buckets₀ special stacks₀
+    pub turn_last : all ≤ i → (log₁ logtags₁ : List ℕ) (starts₁ maps₁ : List (List ℕ)) (e₁ : Sizes) → whole ≡ append_all (take all order) 0 (mod_of words n) (st_of words log₁ logtags₁ starts₁ maps₁ special e₁) → AppendAllEnsures words tags n (take all order) log₁ logtags₁ starts₁ maps₁ e₁ e log₀ logtags₀ starts₀ maps₀ buckets₀ special stacks₀
     unfolding append_all
     turn_last h log₁ logtags₁ starts₁ maps₁ e₁ w =
         let k : i ≡ all = omega (arith, A.upto) in

@@ -19,7 +19,6 @@ use Rattle.theory_finish.specs.Linking.{intake_passes}
 use Rattle.theory_finish.specs.Ringless.{none_ringing}
 use Rattle.derive_limits.specs.Reached.{Reached, At}
 use Rattle.theory_link.specs.Demand.{Output}
-use Rattle.derive_state.specs.Refers.{target_bytes}
 use Rattle.derive_state.specs.Source.{mod_of, Source}
 use Rattle.derive_state.specs.Held.{st_of, Over, ValidArrays, Specials}
 use Rattle.derive_state.specs.Sizes.{Sizes}
@@ -79,9 +78,9 @@ module _ (words tags : List ℕ) (n : ℕ) (order output₀ : List ℕ) (K : Lin
   start_at = fresh_at (mod_of words n) K.source_is.taped.well passes
 
   -- ---- the source is set
-  module _ (targets : List ℕ) (ks : targets ≡ target_bytes) (e : Sizes) (es : e ≡ E) where
-    pub source_asks : Source words tags n × (e.full ≡ false) × (targets ≡ target_bytes) × ValidArrays log₀ logtags₀ starts₀ unmade buckets₀ e × Specials (replicate 1027 0) e
-    source_asks = (K.source_is, ap (λ (y : Sizes). y.full) es, ks, kept-none log₀ logtags₀ starts₀ buckets₀ stacks₀ P marks_long e es, specials_none e es)
+  module _ (e : Sizes) (es : e ≡ E) where
+    pub source_asks : Source words tags n × (e.full ≡ false) × ValidArrays log₀ logtags₀ starts₀ unmade buckets₀ e × Specials (replicate 1027 0) e
+    source_asks = (K.source_is, ap (λ (y : Sizes). y.full) es, kept-none log₀ logtags₀ starts₀ buckets₀ stacks₀ P marks_long e es, specials_none e es)
 
     module _ (r : Sizes) (log logtags : List ℕ) (starts maps : List (List ℕ)) (buckets special : List ℕ)
         (S : SourceTypesEnsures words n 0 log₀ logtags₀ starts₀ buckets₀ (replicate 1027 0) e r log logtags starts maps buckets special) where
@@ -99,12 +98,11 @@ module _ (words tags : List ℕ) (n : ℕ) (order output₀ : List ℕ) (K : Lin
       unfolding session_of
       set-reached = at-reached (subst (At (source (mod_of words n))) set_same start_at)
 
-      set-live : ValidSession true n 0 words tags targets log logtags starts maps buckets special r
+      set-live : ValidSession true n 0 words tags log logtags starts maps buckets special r
       set-live = record {
         reached = set-reached;
         kept = S.kept set_room;
         specials = S.specials set_room;
-        targets_are = ks;
         words_long = K.source_is.taped.words_long;
         tape_long = K.source_is.taped.tags_long;
         taped = λ q. K.source_is.taped;
@@ -123,11 +121,11 @@ module _ (words tags : List ℕ) (n : ℕ) (order output₀ : List ℕ) (K : Lin
             subst (λ (k : ℕ). Roomy (mod_of words n) (take k order) (st_of words log logtags starts maps special r)) (sym alls)
             (subst (Roomy (mod_of words n) os) set_same (imported_roomy (mod_of words n) os K.sequence.is gives.session.imports (sourced 0 (mod_of words n) fresh) refl start_at))
 
-        pub append_asks : ValidSession true n 0 words tags targets log logtags starts maps buckets special r × Stacks stacks₀ r × Sequence words n order all × Roomy (mod_of words n) (take all order) (st_of words log logtags starts maps special r)
+        pub append_asks : ValidSession true n 0 words tags log logtags starts maps buckets special r × Stacks stacks₀ r × Sequence words n order all × Roomy (mod_of words n) (take all order) (st_of words log logtags starts maps special r)
         append_asks = (set-live, record { four = P.stacks_four; rows = P.stacks_rows; high = omega (arith, set-live.lowest.0); high' = omega (arith, set-live.lowest.1) }, set_sequence, set_roomy)
 
         -- ---- the functions are appended
-        module _ (r₂ : Sizes) (log₂ logtags₂ : List ℕ) (starts₂ maps₂ : List (List ℕ)) (buckets₂ : List ℕ) (stacks₂ : List (List ℕ)) (A : AppendAllEnsures words tags targets n (take all order) log logtags starts maps r r₂ log₂ logtags₂ starts₂ maps₂ buckets₂ special stacks₂) where
+        module _ (r₂ : Sizes) (log₂ logtags₂ : List ℕ) (starts₂ maps₂ : List (List ℕ)) (buckets₂ : List ℕ) (stacks₂ : List (List ℕ)) (A : AppendAllEnsures words tags n (take all order) log logtags starts maps r r₂ log₂ logtags₂ starts₂ maps₂ buckets₂ special stacks₂) where
           abbrev s₂ : Derived
           s₂ = st_of words log₂ logtags₂ starts₂ maps₂ special r₂
 
@@ -140,13 +138,13 @@ module _ (words tags : List ℕ) (n : ℕ) (order output₀ : List ℕ) (K : Lin
           finishes : finish_with_entry_points (length output₀) (with (mod_of words n) s₂) ≡ answered vs new
           finishes = subst (λ (y : Derived). finish_with_entry_points (length output₀) (with (mod_of words n) y) ≡ answered vs new) all_same gives.session.finishes
 
-          pub enter_asks : ValidSession true n 0 words tags targets log₂ logtags₂ starts₂ maps₂ buckets₂ special r₂ × Stacks stacks₂ r₂ × (meets_ring (callees_of (mod_of words n).entries) (mod_of words n) s₂ ≡ false)
+          pub enter_asks : ValidSession true n 0 words tags log₂ logtags₂ starts₂ maps₂ buckets₂ special r₂ × Stacks stacks₂ r₂ × (meets_ring (callees_of (mod_of words n).entries) (mod_of words n) s₂ ≡ false)
           enter_asks = (A.live, A.stacks_are, off_rings)
 
           -- ---- the entry points are entered
           module _ (r₃ : Sizes) (log₃ logtags₃ : List ℕ) (starts₃ maps₃ : List (List ℕ)) (buckets₃ : List ℕ) (stacks₃ : List (List ℕ)) (T : EnterAllEnsures words n 0 special log₂ logtags₂ starts₂ maps₂ buckets₂ r₂ r₃ log₃ logtags₃ starts₃ maps₃ buckets₃ stacks₃) where
             pub enter_room : r₃.full ≡ false
-            enter_room = never r₃.full λ q. finish_fits (mod_of words n) os K.sequence.is (length output₀) s₂ vs (at n 0 words tags targets log₂ logtags₂ starts₂ maps₂ buckets₂ special r₂ A.live) finishes (T.over q)
+            enter_room = never r₃.full λ q. finish_fits (mod_of words n) os K.sequence.is (length output₀) s₂ vs (at n 0 words tags log₂ logtags₂ starts₂ maps₂ buckets₂ special r₂ A.live) finishes (T.over q)
 
             -- ---- it is finished
             module _ (refusal bytes : ℕ) (output : List ℕ) (D : Ended log₃ logtags₃ starts₃ special r₃ output₀ refusal bytes output) where

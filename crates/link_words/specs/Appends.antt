@@ -31,14 +31,14 @@ pub record Sequence (words : List ℕ) (n : ℕ) (order : List ℕ) (all : ℕ) 
   pub long : length order ≡ 256
 
 -- these functions are appended, and the session is valid: never full
-pub record AppendAllEnsures (words tags targets : List ℕ) (n : ℕ) (is log₀ logtags₀ : List ℕ) (starts₀ maps₀ : List (List ℕ)) (e : Sizes) (r : Sizes) (log logtags : List ℕ) (starts maps : List (List ℕ)) (buckets special : List ℕ) (stacks : List (List ℕ)) : Type 0 where
+pub record AppendAllEnsures (words tags : List ℕ) (n : ℕ) (is log₀ logtags₀ : List ℕ) (starts₀ maps₀ : List (List ℕ)) (e : Sizes) (r : Sizes) (log logtags : List ℕ) (starts maps : List (List ℕ)) (buckets special : List ℕ) (stacks : List (List ℕ)) : Type 0 where
   pub same : append_all is 0 (mod_of words n) (st_of words log₀ logtags₀ starts₀ maps₀ special e) ≡ st_of words log logtags starts maps special r
-  pub live : ValidSession true n 0 words tags targets log logtags starts maps buckets special r
+  pub live : ValidSession true n 0 words tags log logtags starts maps buckets special r
   pub stacks_are : Stacks stacks r
 
 -- the same of a derived module in the caller's arrays
-pub record AppendsAll (words tags targets : List ℕ) (n : ℕ) (is : List ℕ) (d : DerivedMut) (special : List ℕ) (e : Sizes') (r : Result Sizes' Full') (d' : DerivedMut) (stacks : List (List ℕ)) : Type 0 where
-  pub does : AppendAllEnsures words tags targets n is d.log.now d.logtags.now d.starts.now d.maps.now (going e) (told r) d'.log.now d'.logtags.now d'.starts.now d'.maps.now d'.buckets.now special stacks
+pub record AppendsAll (words tags : List ℕ) (n : ℕ) (is : List ℕ) (d : DerivedMut) (special : List ℕ) (e : Sizes') (r : Result Sizes' Full') (d' : DerivedMut) (stacks : List (List ℕ)) : Type 0 where
+  pub does : AppendAllEnsures words tags n is d.log.now d.logtags.now d.starts.now d.maps.now (going e) (told r) d'.log.now d'.logtags.now d'.starts.now d'.maps.now d'.buckets.now special stacks
   pub same : SameArrays d d'
 
 -- words and tags of an image that passed intake, the order of its functions, and an output that is no shorter

@@ -11,14 +11,13 @@ ghost use Rattle.function_builder.specs.Stacks.{Stacks};
 ghost use Rattle.derive_session.specs.Valid.{ValidSession};
 ghost use Rattle.model.specs.Image.{ScratchLengths};
 ghost use Rattle.link_words.specs.Appends.{Roomy, Sequence, AppendsAll, Linkable, LinkInOrderEnsures};
-ghost use Rattle.derive_state.specs.Refers.{target_bytes};
 ghost use Rattle.derive_state.specs.Sizes.{going};
 
 use base_refusals::Refusal;
 use base_views::{FUNCTIONS, Image, count};
 use base_words::{Tags, Words};
 use derive_source::source_types;
-use derive_state::{DerivedMut, Full, ShaderSource, Sizes, Special, StackRows, empty};
+use derive_state::{DerivedMut, Full, ShaderSource, Sizes, Special, StackRows};
 use function_entry::enter_all;
 use function_localize::append;
 
@@ -32,11 +31,11 @@ fn append_all(
     order: &[u32; 256],
     all: usize,
 ) -> Result<Sizes, Full>
-    requires valid_session { ValidSession true image.n 0 image.words.now image.tags.now target_bytes derived.old.log.now derived.old.logtags.now derived.old.starts.now derived.old.maps.now derived.old.buckets.now special.now (going ends) }
+    requires valid_session { ValidSession true image.n 0 image.words.now image.tags.now derived.old.log.now derived.old.logtags.now derived.old.starts.now derived.old.maps.now derived.old.buckets.now special.now (going ends) }
     requires stacks { Stacks stacks.old (going ends) }
     requires sequence { Sequence image.words.now image.n order.now all }
     requires roomy { Roomy (mod_of image.words.now image.n) (take all order.now) (st_of image.words.now derived.old.log.now derived.old.logtags.now derived.old.starts.now derived.old.maps.now special.now (going ends)) }
-    ensures { AppendsAll image.entry.words.now image.entry.tags.now target_bytes image.entry.n (take all order.now) derived.old special.now ends result derived.new stacks.new }
+    ensures { AppendsAll image.entry.words.now image.entry.tags.now image.entry.n (take all order.now) derived.old special.now ends result derived.new stacks.new }
 {
     let source = ShaderSource { image, offset: 0 };
     let mut e = ends;
@@ -70,21 +69,15 @@ pub fn link_in_order(
     requires scratch_lengths { ScratchLengths derived.old.log.now derived.old.logtags.now derived.old.starts.now stacks.old }
     ensures { LinkInOrderEnsures words.old n order.now output.old (answer_by (λ v. v) (ended result)) output.new }
 {
-    let mut special = [0u32; 1027];
+    let mut special = Special::new();
     // buckets left by another image would only cost time; the answer does not depend on them
     *derived.buckets = [0; 16384];
     let image = Image { words, tags, n };
     let source = ShaderSource { image, offset: 0 };
-    let Ok(set) = source_types(source, derived, &mut special, empty()) else {
-        return Err(Refusal::Full);
-    };
+    let set = source_types(source, derived, &mut special, Sizes::empty())?;
     let all = count(image.words, FUNCTIONS);
-    let Ok(appended) = append_all(image, derived, &special, stacks, set, order, all) else {
-        return Err(Refusal::Full);
-    };
-    let Ok(ends) = enter_all(source, derived, &special, stacks, appended) else {
-        return Err(Refusal::Full);
-    };
+    let appended = append_all(image, derived, &special, stacks, set, order, all)?;
+    let ends = enter_all(source, derived, &special, stacks, appended)?;
     let bytes = derive_finish::finish(&derived.view(ends), &special, words, output)?;
     Ok(bytes as u32)
 }

@@ -10,7 +10,7 @@ ghost use Rattle.model.specs.Image.{OrderEnsures};
 ghost use Rattle.base_refusals.specs.Numbers.{ended};
 ghost use Rattle.order_bytes.specs.Listing.{ListEnsures};
 
-use base_refusals::{Refusal, answer};
+use base_refusals::Refusal;
 use base_views::Image;
 
 // The first `count` numbers go to the start of `out`, as far as there is room.
@@ -36,8 +36,8 @@ fn list(image: Image, out: &mut [u32]) -> Result<u32, Refusal>
     Ok(count as u32)
 }
 
-// The same of an image, or intake's refusal of it.
-fn list_image(image: &[u8], out: &mut [u32]) -> Result<u32, Refusal>
+// The same of any bytes: the count of functions, or the refusal, intake's or that of a ring.
+pub fn order(image: &[u8], out: &mut [u32]) -> Result<u32, Refusal>
     ensures { OrderEnsures (answer_by (λ v. v) (ended result)) out.old out.new image.now }
 {
     let mut words = [0; 16384];
@@ -51,13 +51,4 @@ fn list_image(image: &[u8], out: &mut [u32]) -> Result<u32, Refusal>
         },
         out,
     )
-}
-
-// The same, its answer as one number: the count of functions in the high half; or the refusal in the low half, and of a ring, in the high half, the count of
-// functions from which a chain reaches it.
-// A number and no `Result`, since C reads one number.
-pub fn order(image: &[u8], out: &mut [u32]) -> u64
-    ensures { OrderEnsures result out.old out.new image.now }
-{
-    answer(list_image(image, out))
 }

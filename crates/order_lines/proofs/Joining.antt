@@ -130,7 +130,7 @@ module _ {words order : List ℕ} {count : ℕ} {out : List ℕ} {at : ℕ} (q :
         record { is = sym (ap (sets now next) z) ∙ g.is; ends = omega (arith, ap length z, g.ends) }
 
 -- ---- a first line, and the text
-pub headed-end : (label : List ℕ) (x : ℕ) {o₀ o₁ o₂ o₃ : List ℕ} {a b r : ℕ} → TextEnsures o₀ 0 label o₁ a → TextEnsures o₁ a (decimal x) o₂ b → TextEnsures o₂ b (10 ∷ []) o₃ r → TextEnsures o₀ 0 (headed label x) o₃ r
+pub headed-end : (label : List ℕ) (x : ℕ) {o₀ o₁ o₂ o₃ : List ℕ} {at a b r : ℕ} → TextEnsures o₀ at label o₁ a → TextEnsures o₁ a (decimal x) o₂ b → TextEnsures o₂ b (10 ∷ []) o₃ r → TextEnsures o₀ at (headed label x) o₃ r
 unfolding headed
 headed-end label x p₁ p₂ p₃ = rw (append_assoc label (decimal x) (10 ∷ [])) at (puts_both (puts_both p₁ p₂) p₃)
 

@@ -9,6 +9,7 @@ use Rattle.model.specs.Module.{Module, offset_at}
 use Rattle.model.specs.View.{record_at}
 use Rattle.base_words.specs.Words.{bytes_of}
 use Rattle.model.specs.Redirect.{name_word}
+use Rattle.order_lines.specs.declared.Cursor.{Cursor}
 
 -- ---- bytes
 -- the decimal digits of a number below 1,000
@@ -60,6 +61,13 @@ ordered_text os name = headed FUNCTIONS (length os) ++ lines_text os 0 name
 pub record TextEnsures (out : List ℕ) (at : ℕ) (xs out' : List ℕ) (next : ℕ) : Type 0 where
   pub is : out' ≡ sets out at xs
   pub ends : next ≡ at + length xs
+
+-- the same of a cursor, which goes on after them in the same buffer
+abbrev pub Puts : Cursor → List ℕ → Cursor → Type 0
+Puts c xs c' = TextEnsures c.out.now c.at xs c'.out.now c'.at
+
+abbrev pub SameBuffer : Cursor → Cursor → Type 0
+SameBuffer c c' = c'.out.ghost_name ≡ c.out.ghost_name
 
 -- the text of the name at p
 unfoldable pub text_at : List ℕ → ℕ → List ℕ

@@ -1,11 +1,9 @@
 -- From intake's answer and the redirected words to the promise on all bytes.
 use mathlib.Core.Path.{◌≡◌, refl, sym, ap, ap₂, ◌∙◌}
 use mathlib.Core.List.{List}
-use Prim.Native.Nat.{ℕ, zero, suc, ◌+◌, ◌*◌, ◌<◌, ◌≤◌}
+use Prim.Native.Nat.{ℕ, zero, suc, ◌*◌, ◌≤◌}
 use native.Mathlib.Omega.{arith}
 use lib.ListN.{length}
-use mir.Val.{Fits}
-use mir.Syntax.{w32}
 use Rattle.base_words.specs.Words.{words_of}
 use Rattle.model.specs.Outcome.{Laid, laid, bad, strange}
 use Rattle.model.specs.Module.{Module, read}
@@ -14,19 +12,18 @@ use Rattle.model.specs.Intake.{intake_of}
 use Rattle.model.specs.Redirect.{Answer, redirected, outside, no_original, no_replacement, arguments_differ, results_differ, redirect_function}
 use Rattle.theory_image.specs.Modules.{read_well}
 use Rattle.intake.specs.Taken.{Accepts, TakeInEnsures}
-use Rattle.model.specs.Refusals.{Ended, done, refused, packed, answer_by}
+use Rattle.model.specs.Refusals.{Ended, refused}
 use Rattle.model.specs.Intake.{of_laid, after_intake, on_words}
 use Rattle.model.specs.Image.{on_image, redirect_ended, redirect_after, redirect_image, redirect_answer, wuldgisp_redirect, RedirectEnsures}
 use Rattle.theory_image.specs.OnWords.{on_refused, on_module}
 use Rattle.redirect_words.specs.Passes.{Redirected, shown as shownOf, Stores}
 use Rattle.redirect_words.proofs.Finding.{find_in}
 use Rattle.redirect_words.proofs.Theorems.{accepted}
-use Rattle.base_handles.specs.declared.FunctionHandle.{FunctionHandle}
 use Rattle.redirect_bytes.specs.Answers.{shown, RedirectFunctionEnsures, Small, small_both, small_refused}
-use Rattle.std.specs.Prelude.{Result, Ok, Err, MatchResult, IsOkAnd}
+use Rattle.std.specs.Prelude.{Ok, Err}
 use Rattle.base_refusals.specs.declared.Refusal.{Refusal}
 use Rattle.base_refusals.specs.declared.Refusal.TheVariants.{Ring}
-use Rattle.base_refusals.specs.Numbers.{number_of as number_of_refusal, refused_by, ended}
+use Rattle.base_refusals.specs.Numbers.{number_of as number_of_refusal, refused_by}
 use Rattle.intake.proofs.Refusals.{refused_by as is_refused}
 use Rattle.theory_image.specs.IntakeNumbers.{intake_low}
 use Rattle.redirect_bytes.proofs.Sizes.{image_long}
@@ -110,27 +107,3 @@ module _ (image : List ℕ) (o p : ℕ) (omit : List ℕ) where
     pub packs : (r : ℕ) → r ≡ redirect_answer (shown a) → RedirectEnsures r image image₁ o p omit
     unfolding wuldgisp_redirect
     packs r e = record { answer = e ∙ ap redirect_answer told_is; left = ap (λ x. x.1) h.same }
-
--- ---- an answer as one number
-both_small : {a b : ℕ} → Small (done (a, b)) → (a < 65536) × (b < 65536)
-both_small (small_both x y) = (x, y)
-
-module _ (p : FunctionHandle × FunctionHandle) (h : Small (shown (Ok p))) where
-  pub times_fits : Fits w32 (65536 * p.1.0)
-  unfolding shownOf
-  times_fits = record { fits = omega (arith, (both_small h).1) }
-
-  pub number_fits : Fits w32 (p.0.0 + 65536 * p.1.0)
-  unfolding shownOf
-  number_fits = record { fits = omega (arith, (both_small h).0, (both_small h).1) }
-
-refusal_number : (e : Refusal) → answer_by (λ v. v) (refused_by e) ≡ redirect_answer (refused_by e)
-unfolding answer_by
-refusal_number (Ring left) = refl
-refusal_number e = refl
-
-pub number_is : (q : Redirected) (m : Result ℕ Refusal) (P : FunctionHandle × FunctionHandle → ℕ → Type 0) → MatchResult q (λ p. IsOkAnd m (P p)) (λ e. m ≡ Err e) → ((p : FunctionHandle × FunctionHandle) (v : ℕ) → P p v → v ≡ p.0.0 + 65536 * p.1.0) → (r : ℕ) → r ≡ answer_by (λ v. v) (ended m) → r ≡ redirect_answer (shown q)
-unfolding shownOf answer_by
-number_is (Ok p) (Ok v) P e h r is = is ∙ ap (packed 0) (h p v e)
-number_is (Ok p) (Err d) P e h r is = absurd e
-number_is (Err d) m P e h r is = is ∙ ap (λ x. answer_by (λ v. v) (ended x)) e ∙ refusal_number d

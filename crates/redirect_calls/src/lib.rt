@@ -13,8 +13,17 @@ ghost use Rattle.model.specs.Redirect.{omitted as omittedOf, redirecting, stays 
 ghost use Rattle.redirect_calls.specs.Turns.{RedirectAllEnsures, turn_one, turn_all, redirected_by};
 
 use base_classes::{CALLEE, FUNCTION};
+use base_handles::FunctionHandle;
 use base_views::{ENTRIES, FUNCTIONS, Image, SPECIAL, count, offset};
 use base_words::{Tags, Words};
+
+// A redirecting: calls of the original become calls of the replacement, but for those in the replacement and in the functions whose names are omitted.
+#[derive(Clone, Copy)]
+pub struct Redirection<'a> {
+    pub original: FunctionHandle,
+    pub replacement: FunctionHandle,
+    pub omit: &'a [u32],
+}
 
 // Whether an optional name is the name with a number.
 pub fn is_named(w: u32, name: u32) -> bool
@@ -32,94 +41,64 @@ fn omitted(omit: &[u32], w: u32) -> bool
 
 // A word of the class s: the function of a Call or of a CallResult.
 #[tactic(auto, unfolding(model::specs::Redirect::redirecting))]
-fn redirect_word(s: u8, w: u32, original: u32, replacement: u32) -> u32
-    ensures { result ≡ redirecting original replacement s w }
+fn redirect_word(s: u8, w: u32, redirection: Redirection) -> u32
+    ensures { result ≡ redirecting redirection.entry.original.0 redirection.entry.replacement.0 s w }
 {
-    if w == original && (s == CALLEE || s == FUNCTION) {
-        replacement
+    if w == redirection.original.0 && (s == CALLEE || s == FUNCTION) {
+        redirection.replacement.0
     } else {
         w
     }
 }
 
 // All words from `at` to `end`.
-fn redirect_fn(
-    words: &mut Words,
-    tags: &Tags,
-    at: usize,
-    end: usize,
-    original: u32,
-    replacement: u32,
-)
+fn redirect_fn(words: &mut Words, tags: &Tags, at: usize, end: usize, redirection: Redirection)
     requires { (at ≤ end) × (end ≤ 16384) × (length words.old ≡ 16384) × (length tags.now ≡ 16384) }
-    ensures { words.new ≡ sets words.old at (zip_with (redirecting original replacement) (slice at end tags.now) (slice at end words.old)) }
+    ensures { words.new ≡ sets words.old at (zip_with (redirecting redirection.entry.original.0 redirection.entry.replacement.0) (slice at end tags.now) (slice at end words.old)) }
 {
     for j in at..end {
-        words[j] = redirect_word(tags[j], words[j], original, replacement);
+        words[j] = redirect_word(tags[j], words[j], redirection);
     }
 }
 
 // Whether function j stays as it is: the replacement, or one whose name w is omitted.
 #[tactic(auto, unfolding(model::specs::Redirect::stays))]
-fn stays(replacement: u32, omit: &[u32], j: usize, w: u32) -> bool
-    ensures { result ≡ stays_of replacement omit.now j w }
+fn stays(redirection: Redirection, j: usize, w: u32) -> bool
+    ensures { result ≡ stays_of redirection.entry.replacement.0 redirection.entry.omit.now j w }
 {
-    j == replacement as usize || omitted(omit, w)
+    j == redirection.replacement.0 as usize || omitted(redirection.omit, w)
 }
 
 // Table function j.
-fn redirect_one(
-    words: &mut Words,
-    tags: &Tags,
-    n: usize,
-    j: usize,
-    original: u32,
-    replacement: u32,
-    omit: &[u32],
-)
+fn redirect_one(words: &mut Words, tags: &Tags, n: usize, j: usize, redirection: Redirection)
     requires tape { Tape words.old tags.now n }
     requires j_bound { j < count_at 6 words.old }
-    ensures { RedirectAllEnsures words.new words.old tags.now n (turn_one j original replacement omit.now) }
+    ensures { RedirectAllEnsures words.new words.old tags.now n (turn_one j redirection.entry.original.0 redirection.entry.replacement.0 redirection.entry.omit.now) }
 {
     let image = Image { words, tags, n };
-    let at = image.record_at(FUNCTIONS, j);
-    let end = image.record_end(FUNCTIONS, j);
-    if !stays(replacement, omit, j, words[at]) {
-        redirect_fn(words, tags, at, end, original, replacement);
+    let (at, end) = image.record(FUNCTIONS, j);
+    if !stays(redirection, j, words[at]) {
+        redirect_fn(words, tags, at, end, redirection);
     }
 }
 
 // Table functions.
-fn redirect_functions(
-    words: &mut Words,
-    tags: &Tags,
-    n: usize,
-    original: u32,
-    replacement: u32,
-    omit: &[u32],
-)
+fn redirect_functions(words: &mut Words, tags: &Tags, n: usize, redirection: Redirection)
     requires { Tape words.old tags.now n }
-    ensures { RedirectAllEnsures words.new words.old tags.now n (turn_all original replacement omit.now) }
+    ensures { RedirectAllEnsures words.new words.old tags.now n (turn_all redirection.entry.original.0 redirection.entry.replacement.0 redirection.entry.omit.now) }
 {
     for j in 0..count(words, FUNCTIONS) {
-        redirect_one(words, tags, n, j, original, replacement, omit);
+        redirect_one(words, tags, n, j, redirection);
     }
 }
 
 // Table functions, and then the section of entry points as a whole: no other of its words has the class of a Call's or a CallResult's function.
-pub fn redirect_all(
-    words: &mut Words,
-    tags: &Tags,
-    n: usize,
-    original: u32,
-    replacement: u32,
-    omit: &[u32],
-)
+pub fn redirect_all(words: &mut Words, tags: &Tags, n: usize, redirection: Redirection)
     requires { Tape words.old tags.now n }
-    ensures { RedirectAllEnsures words.new words.old tags.now n (redirected_by original replacement omit.now) }
+    ensures { RedirectAllEnsures words.new words.old tags.now n (redirected_by redirection.entry.original.0 redirection.entry.replacement.0 redirection.entry.omit.now) }
 {
-    redirect_functions(words, tags, n, original, replacement, omit);
+    redirect_functions(words, tags, n, redirection);
     let at = offset(words, ENTRIES);
     let end = offset(words, SPECIAL);
-    redirect_fn(words, tags, at, end, original, replacement);
+    redirect_fn(words, tags, at, end, redirection);
 }

@@ -5,6 +5,7 @@
 ghost use Rattle.std.specs.Prelude.{◌≡◌, ◌≤◌, length};
 ghost use Rattle.redirect_image.specs.Numbers.{stepped, read as read_of};
 
+use redirect_words::Request;
 use std::env::{Env, FillError};
 
 // A number and one more digit; none where that is no number of 32 bits.
@@ -65,14 +66,8 @@ fn wrong(rt: &impl Eprint, i: usize) {
 }
 
 // Writes the image, redirected; or its refusal.
-fn redirect(
-    rt: &(impl Print + Eprint),
-    image: &mut [u8],
-    original: u32,
-    replacement: u32,
-    omit: &[u32],
-) {
-    match redirect_bytes::redirect_function(image, original, replacement, omit) {
+fn redirect(rt: &(impl Print + Eprint), image: &mut [u8], request: Request) {
+    match redirect_bytes::redirect_function(image, request) {
         Ok(_) => program_streams::write(rt, "redirect_image", image),
         Err(refusal) => program_streams::refused(rt, "redirect_image", refusal),
     }
@@ -97,9 +92,12 @@ fn run(rt: &HostRuntime, original: u32, replacement: u32, count: usize)
         wrong(rt, bad);
         return;
     }
-    program_streams::with_image(rt, "redirect_image", |image| {
-        redirect(rt, image, original, replacement, &omit[..count])
-    });
+    let request = Request {
+        original,
+        replacement,
+        omit: &omit[..count],
+    };
+    program_streams::with_image(rt, "redirect_image", |image| redirect(rt, image, request));
 }
 
 fn main(rt: HostRuntime) {

@@ -1,17 +1,13 @@
 -- Finding a function by its name, and comparing two functions.
 use mathlib.Core.Path.{◌≡◌, refl, sym, ap, ap₂, ◌∙◌}
 use mathlib.Core.Bool.{Bool, true, false, ◌&&◌}
-use mathlib.Core.Option.{none, some}
+use mathlib.Core.Option.{Option, none, some}
 use mathlib.Core.List.{List, [], ◌∷◌}
-use Prim.Native.Nat.{ℕ, zero, suc, ◌+◌, ◌*◌, ◌≤◌, ◌<◌, min}
-use native.Mathlib.Numerals.{add-one}
+use Prim.Native.Nat.{ℕ, zero, suc, ◌+◌, ◌≤◌, ◌<◌, min}
 use native.Mathlib.Omega.{arith}
 use lib.Dec.{eqb}
 use lib.ListN.{length, get_or, drop, drop_of_length-le}
 use lib.Seq.{drop-cons}
-use borrow.Author.Tests.{eq-eqb, ne_eqb}
-use mir.Val.{Fits}
-use mir.Syntax.{w32, w64}
 use Rattle.model.specs.Tree.{Function}
 use Rattle.model.specs.Module.{Module, count_at}
 use Rattle.model.specs.View.{record_at}
@@ -21,53 +17,44 @@ use Rattle.model.specs.Redirect.{name_word, find, argument_types, agree, result_
 use Rattle.base_views.proofs.Places.{standing-function, standing-inside}
 use Rattle.model.specs.Image.{redirect_ended}
 use Rattle.redirect_words.specs.Passes.{found_at, shown, Finds, Agrees, Returns, Compares}
-use Rattle.std.specs.Prelude.{Ok, Err, Some, None}
+use Rattle.std.specs.Prelude.{Ok, Err, Some, None, MatchOption, IsSomeAnd, cond, Option as Found}
+use Rattle.std.specs.Option.{option_map}
+use Rattle.std.specs.List.{list_all, range_with_len, find as search_for}
 use Rattle.base_refusals.specs.declared.Refusal.TheVariants.{ArgumentTypes, ResultTypes}
-use Rattle.redirect_calls.proofs.Places.{many, few, start_in, name_is_lem, types_many, type_in, type_is, result_type_in, result_few, result_none, result_some}
+use Rattle.redirect_calls.proofs.Places.{many, name_is_lem, types_many, type_in, type_is, result_type_in, result_few, result_none, result_some}
 use Rattle.base_handles.specs.declared.FunctionHandle.{FunctionHandle}
 
 -- ---- find
 module _ (words tags : List ℕ) (n name : ℕ) where
-  -- what is left of the functions from number j on
-  pub record Seeking (j : ℕ) : Type 0 where
-    pub same : (m : Module) → Taped words tags n m → find (drop j m.functions) j name ≡ find m.functions 0 name
+  abbrev pub has_name : ℕ → Bool
+  has_name j = eqb (get_or words (record_at 6 j words) 0) (suc name)
 
-  pub seek_begin : Seeking 0
-  seek_begin = record { same = λ m t. refl }
+  unfoldable number_in : Found ℕ → Option ℕ
+  number_in (Some j) = some j
+  number_in None = none
 
-  module _ (h : Tape words tags n) (count j : ℕ) (count_is : count ≡ count_at 6 words) (less : j < count) where
-    seek_in : j < count_at 6 words
-    seek_in = omega arith
+  -- what the library's search finds from number j on is what the model finds
+  searched : {m : Module} → Taped words tags n m → (d j : ℕ) → j + d ≡ length m.functions → number_in (search_for has_name (range_with_len j d)) ≡ find (drop j m.functions) j name
+  unfolding find function number_in
+  searched {m} t zero j e = rw (drop_of_length-le m.functions {i = j} (omega arith)) refl
+  searched {m} t (suc d) j e =
+      let k : j < length m.functions = omega arith in
+      let named : has_name j ≡ eqb (name_word (function m j)) (suc name) = ap (λ w. eqb w (suc name)) (name_is_lem t j (omega (arith, many t))) in
+      rw (drop-cons m.functions j nothing k) (go (has_name j) named (searched t d (j + 1) (omega arith)))
+    where
+      go : (b : Bool) → b ≡ eqb (name_word (function m j)) (suc name) → number_in (search_for has_name (range_with_len (j + 1) d)) ≡ find (drop (j + 1) m.functions) (j + 1) name
+          → number_in (cond b (Some j) (search_for has_name (range_with_len (j + 1) d))) ≡ elim (eqb (name_word (get_or m.functions j nothing)) (suc name)) [ true ↦ some j | false ↦ find (drop (suc j) m.functions) (suc j) name ]
+      go true q rest = rw (← q) refl
+      go false q rest = let one : j + 1 ≡ suc j = omega arith in rw (← q) (rest ∙ ap (λ i. find (drop i m.functions) i name) one)
 
-    pub seek_small : Fits w32 j
-    seek_small = record { fits = omega (arith, few h.taped, seek_in) }
-
-    module _ (at : ℕ) (is : at ≡ record_at 6 j words) where
-      pub seek_at : at < 16384
-      seek_at = omega (arith, start_in h.taped j seek_in)
-
-      pub seek_fits : Fits w64 (at * 4)
-      seek_fits = record { fits = omega (arith, seek_at) }
-
-      module _ (inv : Seeking j) (r : Bool) (named : r ≡ eqb (get_or words at 0) (suc name)) where
-        cut : (m : Module) → Taped words tags n m → elim r [ true ↦ some j | false ↦ find (drop (suc j) m.functions) (suc j) name ] ≡ find m.functions 0 name
-        unfolding find function
-        cut m t =
-            let k : j < length m.functions = omega (arith, seek_in, many t) in
-            let e : r ≡ eqb (name_word (function m j)) (suc name) = named ∙ ap (λ w. eqb w (suc name)) (ap (λ p. get_or words p 0) is ∙ name_is_lem t j seek_in) in
-            rw e (rw (drop-cons m.functions j nothing k) at (inv.same m t))
-
-        pub seek_here : r ≡ true → (f : FunctionHandle) → f.0 ≡ j → Finds (Some f) words tags n name
-        unfolding found_at
-        seek_here y f e = record { same = λ m t. ap some e ∙ rw y at (cut m t) }
-
-        pub seek_on : r ≡ false → Seeking (j + 1)
-        seek_on y = rw add-one (record { same = λ m t. rw y at (cut m t) })
-
-  pub seek_none : (count j : ℕ) → count ≡ count_at 6 words → Seeking j → count ≤ j → Finds None words tags n name
-  unfolding found_at find
-  seek_none count j count_is inv h =
-      record { same = λ m t. let k : length m.functions ≤ j = omega (arith, count_is, many t) in rw (drop_of_length-le m.functions k) at (inv.same m t) }
+  pub finds : (count : ℕ) → count ≡ count_at 6 words → (r : Found ℕ) → option_map (λ x. x) r ≡ search_for has_name (range_with_len 0 count) → (f : Found FunctionHandle) (P : ℕ → FunctionHandle → Type 0) → MatchOption r (f ≡ None) (λ j. IsSomeAnd f (P j)) → ((j : ℕ) (h : FunctionHandle) → P j h → h.0 ≡ j) → Finds f words tags n name
+  unfolding found_at number_in
+  finds count is r e f P v h = record { same = λ m t. ends r e f v ∙ searched t count 0 (omega (arith, is, many t)) }
+    where
+      ends : (r : Found ℕ) → option_map (λ x. x) r ≡ search_for has_name (range_with_len 0 count) → (f : Found FunctionHandle) → MatchOption r (f ≡ None) (λ j. IsSomeAnd f (P j)) → found_at f ≡ number_in (search_for has_name (range_with_len 0 count))
+      ends None e f v = rw (v, ← e) refl
+      ends (Some j) e (Some g) v = ap some (h j g v) ∙ ap number_in e
+      ends (Some j) e None v = absurd v
 
 -- what is found is in the table
 pub find_in : (fs : List Function) (j name a : ℕ) → find fs j name ≡ some a → a < j + length fs
@@ -94,53 +81,39 @@ agree-short (x ∷ xs) [] (suc j) h = agree-none (drop j xs)
 agree-short (x ∷ xs) (y ∷ ys) zero h = absurd (omega arith)
 agree-short (x ∷ xs) (y ∷ ys) (suc j) h = agree-short xs ys j (omega arith)
 
-module _ (words tags : List ℕ) (n i k : ℕ) where
-  pub record Agreeing (j : ℕ) : Type 0 where
-    pub same : (m : Module) → Taped words tags n m → agree (drop j (argument_types (function m i))) (drop j (argument_types (function m k))) ≡ agree (argument_types (function m i)) (argument_types (function m k))
+module _ (words tags : List ℕ) (n i k : ℕ) (h : Tape words tags n) (x : i < count_at 6 words) (y : k < count_at 6 words) (a b : ℕ) (a-is : a ≡ record_at 6 i words) (b-is : b ≡ record_at 6 k words) where
+  abbrev pub same_type : ℕ → Bool
+  same_type j = eqb (get_or words (argument_at a j + 1) 0) (get_or words (argument_at b j + 1) 0)
 
-  pub agree-begin : Agreeing 0
-  agree-begin = record { same = λ m t. refl }
+  module _ (those others : ℕ) (those-is : those ≡ get_or words (arguments_at a) 0) (others-is : others ≡ get_or words (arguments_at b) 0) (shorter : ℕ) (shorter-is : shorter ≡ min those others) where
+    module _ {m : Module} (t : Taped words tags n m) where
+      those_many : those ≡ length (argument_types (function m i))
+      those_many = those-is ∙ ap (λ p. get_or words (arguments_at p) 0) a-is ∙ types_many t i x
 
-  module _ (h : Tape words tags n) (x : i < count_at 6 words) (y : k < count_at 6 words) (a b : ℕ) (a-is : a ≡ record_at 6 i words) (b-is : b ≡ record_at 6 k words) where
-    module _ (those others : ℕ) (those-is : those ≡ get_or words (arguments_at a) 0) (others-is : others ≡ get_or words (arguments_at b) 0) where
-      module _ {m : Module} (t : Taped words tags n m) where
-        those_many : those ≡ length (argument_types (function m i))
-        those_many = those-is ∙ ap (λ p. get_or words (arguments_at p) 0) a-is ∙ types_many t i x
+      others_many : others ≡ length (argument_types (function m k))
+      others_many = others-is ∙ ap (λ p. get_or words (arguments_at p) 0) b-is ∙ types_many t k y
 
-        others_many : others ≡ length (argument_types (function m k))
-        others_many = others-is ∙ ap (λ p. get_or words (arguments_at p) 0) b-is ∙ types_many t k y
+    pub in_a : (j : ℕ) → j < shorter → argument_at a j + 1 < 16384
+    in_a j less = omega (arith, type_in h.taped i x j (omega (arith, those_many h.taped)))
 
-      module _ (shorter : ℕ) (shorter-is : shorter ≡ min those others) where
-        module _ (j : ℕ) (less : j < shorter) where
-          pub in_a : argument_at a j + 1 < 16384
-          in_a = omega (arith, type_in h.taped i x j (omega (arith, those_many h.taped)))
+    pub in_b : (j : ℕ) → j < shorter → argument_at b j + 1 < 16384
+    in_b j less = omega (arith, type_in h.taped k y j (omega (arith, others_many h.taped)))
 
-          pub in_b : argument_at b j + 1 < 16384
-          in_b = omega (arith, type_in h.taped k y j (omega (arith, others_many h.taped)))
+    -- the types from argument j on agree, up to the shorter list
+    from : {m : Module} → Taped words tags n m → (d j : ℕ) → j + d ≡ shorter → list_all same_type (range_with_len j d) ≡ agree (drop j (argument_types (function m i))) (drop j (argument_types (function m k)))
+    unfolding agree
+    from {m} t zero j e = sym (agree-short (argument_types (function m i)) (argument_types (function m k)) j (omega (arith, those_many t, others_many t)))
+    from {m} t (suc d) j e =
+        let u : j < length (argument_types (function m i)) = omega (arith, those_many t) in
+        let v : j < length (argument_types (function m k)) = omega (arith, others_many t) in
+        let p = ap (λ z. get_or words (argument_at z j + 1) 0) a-is ∙ type_is t i x j u in
+        let q = ap (λ z. get_or words (argument_at z j + 1) 0) b-is ∙ type_is t k y j v in
+        let one : j + 1 ≡ suc j = omega arith in
+        let r = from t d (j + 1) (omega arith) ∙ ap (λ o. agree (drop o (argument_types (function m i))) (drop o (argument_types (function m k)))) one in
+        rw (drop-cons (argument_types (function m i)) j 0 u, drop-cons (argument_types (function m k)) j 0 v) (ap₂ ◌&&◌ (ap₂ eqb p q) r)
 
-          module _ (inv : Agreeing j) where
-            agree-cut : (m : Module) → Taped words tags n m → eqb (get_or words (argument_at a j + 1) 0) (get_or words (argument_at b j + 1) 0) && agree (drop (suc j) (argument_types (function m i))) (drop (suc j) (argument_types (function m k))) ≡ agree (argument_types (function m i)) (argument_types (function m k))
-            unfolding agree
-            agree-cut m t =
-                let u : j < length (argument_types (function m i)) = omega (arith, those_many t) in
-                let v : j < length (argument_types (function m k)) = omega (arith, others_many t) in
-                let p = ap (λ z. get_or words (argument_at z j + 1) 0) a-is ∙ type_is t i x j u in
-                let q = ap (λ z. get_or words (argument_at z j + 1) 0) b-is ∙ type_is t k y j v in
-                rw (p, q) (rw (drop-cons (argument_types (function m i)) j 0 u, drop-cons (argument_types (function m k)) j 0 v) at (inv.same m t))
-
-            module _ (u v : ℕ) (u-is : u ≡ get_or words (argument_at a j + 1) 0) (v-is : v ≡ get_or words (argument_at b j + 1) 0) where
-              cut-here : (m : Module) → Taped words tags n m → eqb u v && agree (drop (suc j) (argument_types (function m i))) (drop (suc j) (argument_types (function m k))) ≡ agree (argument_types (function m i)) (argument_types (function m k))
-              cut-here m t = rw (u-is, v-is) (agree-cut m t)
-
-              pub agree_not : (u ≡ v → ⊥) → Agrees false words tags n i k
-              agree_not g = record { same = λ m t. rw (ne_eqb u v g) at (cut-here m t) }
-
-              pub agree-next : u ≡ v → Agreeing (j + 1)
-              agree-next g = rw add-one (record { same = λ m t. rw (eq-eqb u v g) at (cut-here m t) })
-
-        pub agree_done : (j : ℕ) → Agreeing j → shorter ≤ j → Agrees true words tags n i k
-        agree_done j inv g =
-            record { same = λ m t. sym (agree-short (argument_types (function m i)) (argument_types (function m k)) j (omega (arith, those_many t, others_many t))) ∙ inv.same m t }
+    pub agrees : (r : Bool) → r ≡ list_all same_type (range_with_len 0 shorter) → Agrees r words tags n i k
+    agrees r e = record { same = λ m t. e ∙ from t shorter 0 (omega arith) }
 
 -- ---- returns_at
 pub lists_in : (words tags : List ℕ) (n i : ℕ) → Tape words tags n → i < count_at 6 words → (a : ℕ) → a ≡ record_at 6 i words → expressions_at a words < 16384
@@ -200,22 +173,16 @@ module _ (words tags : List ℕ) (n i k : ℕ) (h : Tape words tags n) (x : i < 
       types_decide = record { same = λ m t. rw (some_a t (one-a t), some_b t (one_b t)) }
 
 -- ---- compare
-module _ (words tags : List ℕ) (n a b i k : ℕ) (i-is : i ≡ a) (k_is : k ≡ b) (r : Bool) (g : Agrees r words tags n i k) where
-  args : (m : Module) → Taped words tags n m → r ≡ agree (argument_types (function m a)) (argument_types (function m b))
-  args m t = g.same m t ∙ ap₂ (λ x y. agree (argument_types (function m x)) (argument_types (function m y))) i-is k_is
-
+module _ (words tags : List ℕ) (n a b : ℕ) (r : Bool) (g : Agrees r words tags n a b) where
   pub differ_arguments : r ≡ false → Compares (Err ArgumentTypes) words tags n a b
   unfolding compared shown redirect_ended
-  differ_arguments e = record { same = λ m t omit. rw (compared, sym (args m t) ∙ e) }
+  differ_arguments e = record { same = λ m t omit. rw (compared, sym (g.same m t) ∙ e) }
 
-  module _ (e : r ≡ true) (s : Bool) (d : Returns s words tags n i k) where
-    results : (m : Module) → Taped words tags n m → s ≡ same (result_type (function m a)) (result_type (function m b))
-    results m t = d.same m t ∙ ap₂ (λ x y. same (result_type (function m x)) (result_type (function m y))) i-is k_is
-
+  module _ (e : r ≡ true) (s : Bool) (d : Returns s words tags n a b) where
     pub differ-results : s ≡ false → Compares (Err ResultTypes) words tags n a b
     unfolding compared shown redirect_ended
-    differ-results z = record { same = λ m t omit. rw (compared, sym (args m t) ∙ e, sym (results m t) ∙ z) }
+    differ-results z = record { same = λ m t omit. rw (compared, sym (g.same m t) ∙ e, sym (d.same m t) ∙ z) }
 
     pub differ-none : s ≡ true → (f h : FunctionHandle) → f.0 ≡ a → h.0 ≡ b → Compares (Ok (f, h)) words tags n a b
     unfolding compared shown redirect_ended
-    differ-none z f h u v = record { same = λ m t omit. rw (compared, sym (args m t) ∙ e, sym (results m t) ∙ z, u, v) }
+    differ-none z f h u v = record { same = λ m t omit. rw (compared, sym (g.same m t) ∙ e, sym (d.same m t) ∙ z, u, v) }

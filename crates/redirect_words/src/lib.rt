@@ -3,7 +3,7 @@
 // them goes once over the functions and the entry points. What writes words takes words and tags as two parameters, as redirect_calls does.
 #![tactic(auto)]
 
-ghost use Rattle.std.specs.Prelude.{◌≡◌, ◌∷◌, ◌+◌, ◌*◌, ◌<◌, length, get_or};
+ghost use Rattle.std.specs.Prelude.{◌≡◌, ◌∷◌, ◌+◌, ◌*◌, ◌<◌, eqb, suc, length, get_or};
 ghost use Rattle.model.specs.Module.{count_at};
 ghost use Rattle.model.specs.View.{record_at};
 ghost use Rattle.model.specs.FunctionView.{argument_at, returns_at};
@@ -15,27 +15,52 @@ use base_handles::FunctionHandle;
 use base_refusals::Refusal;
 use base_views::{FUNCTIONS, Image, NAMES, argument_at, arguments, count};
 use base_words::{Tags, Words, store};
-use redirect_calls::{is_named, redirect_all};
+use redirect_calls::{Redirection, is_named, redirect_all};
+
+// What a redirecting is asked for: the numbers of the original's name, of the replacement's and of those whose functions stay as they are.
+#[derive(Clone, Copy)]
+pub struct Request<'a> {
+    pub original: u32,
+    pub replacement: u32,
+    pub omit: &'a [u32],
+}
+
+// Where a table function starts.
+fn start(image: Image, f: FunctionHandle) -> usize
+    requires tape { Tape image.words.now image.tags.now image.n }
+    requires f_bound { f.0 < count_at 6 image.words.now }
+    ensures { result ≡ record_at 6 f.0 image.entry.words.now }
+{
+    image.record_at(FUNCTIONS, f.0 as usize)
+}
+
+// Whether table function j has a name.
+fn has_name(image: Image, j: usize, name: u32) -> bool
+    requires tape { Tape image.words.now image.tags.now image.n }
+    requires j_bound { j < count_at 6 image.words.now }
+    ensures { result ≡ eqb (get_or image.entry.words.now (record_at 6 j image.entry.words.now) 0) (suc name) }
+{
+    let at = image.record_at(FUNCTIONS, j);
+    is_named(image.words[at], name)
+}
 
 // The table function with a name.
 pub fn find(image: Image, name: u32) -> Option<FunctionHandle>
     requires { Tape image.words.now image.tags.now image.n }
     ensures { Finds result image.entry.words.now image.entry.tags.now image.entry.n name }
 {
-    for j in 0..count(image.words, FUNCTIONS) {
-        let at = image.record_at(FUNCTIONS, j);
-        if is_named(image.words[at], name) {
-            return Some(FunctionHandle(j as u32));
-        }
-    }
-    None
+    (0..count(image.words, FUNCTIONS))
+        .find(|j| has_name(image, *j, name))
+        .map(|j| FunctionHandle(j as u32))
 }
 
 // Whether all numbers given are those of names.
-fn inside(original: u32, replacement: u32, omit: &[u32], names: u32) -> bool
-    ensures { result ≡ all_below (original ∷ replacement ∷ omit.now) names }
+fn inside(request: Request, names: u32) -> bool
+    ensures { result ≡ all_below (request.entry.original ∷ request.entry.replacement ∷ request.entry.omit.now) names }
 {
-    original < names && replacement < names && omit.iter().all(|name| *name < names)
+    request.original < names
+        && request.replacement < names
+        && request.omit.iter().all(|name| *name < names)
 }
 
 // The type of argument i of the function that starts at s.
@@ -46,41 +71,35 @@ fn type_at(words: &Words, s: usize, i: usize) -> u32
     words[argument_at(s, i) + 1]
 }
 
-// Whether the argument types of table functions i and k are equal, up to the shorter list.
-fn arguments_agree(image: Image, i: usize, k: usize) -> bool
+// Whether the argument types of two functions are equal, up to the shorter list.
+fn arguments_agree(image: Image, original: FunctionHandle, replacement: FunctionHandle) -> bool
     requires tape { Tape image.words.now image.tags.now image.n }
-    requires i_bound { (i < count_at 6 image.words.now) × (k < count_at 6 image.words.now) }
-    ensures { Agrees result image.entry.words.now image.entry.tags.now image.entry.n i k }
+    requires original_bound { (original.0 < count_at 6 image.words.now) × (replacement.0 < count_at 6 image.words.now) }
+    ensures { Agrees result image.entry.words.now image.entry.tags.now image.entry.n original.0 replacement.0 }
 {
-    let a = image.record_at(FUNCTIONS, i);
-    let b = image.record_at(FUNCTIONS, k);
+    let a = start(image, original);
+    let b = start(image, replacement);
     let shorter = arguments(image.words, a).min(arguments(image.words, b));
-    for j in 0..shorter {
-        if type_at(image.words, a, j) != type_at(image.words, b, j) {
-            return false;
-        }
-    }
-    true
+    (0..shorter).all(|j| type_at(image.words, a, j) == type_at(image.words, b, j))
 }
 
-// Where the result of table function i is.
-fn returns_at(image: Image, i: usize) -> usize
+// Where the result of a function is.
+fn returns_at(image: Image, f: FunctionHandle) -> usize
     requires tape { Tape image.words.now image.tags.now image.n }
-    requires i_bound { i < count_at 6 image.words.now }
-    ensures { (result ≡ returns_at (record_at 6 i image.entry.words.now) image.entry.words.now) × (result < 16384) }
+    requires f_bound { f.0 < count_at 6 image.words.now }
+    ensures { (result ≡ returns_at (record_at 6 f.0 image.entry.words.now) image.entry.words.now) × (result < 16384) }
 {
-    let s = image.record_at(FUNCTIONS, i);
-    base_views::returns_at(image.words, s)
+    base_views::returns_at(image.words, start(image, f))
 }
 
 // Whether two functions have no result, or results of one type.
-fn results_agree(image: Image, i: usize, k: usize) -> bool
+fn results_agree(image: Image, original: FunctionHandle, replacement: FunctionHandle) -> bool
     requires tape { Tape image.words.now image.tags.now image.n }
-    requires i_bound { (i < count_at 6 image.words.now) × (k < count_at 6 image.words.now) }
-    ensures { Returns result image.entry.words.now image.entry.tags.now image.entry.n i k }
+    requires original_bound { (original.0 < count_at 6 image.words.now) × (replacement.0 < count_at 6 image.words.now) }
+    ensures { Returns result image.entry.words.now image.entry.tags.now image.entry.n original.0 replacement.0 }
 {
-    let x = returns_at(image, i);
-    let y = returns_at(image, k);
+    let x = returns_at(image, original);
+    let y = returns_at(image, replacement);
     image.words[x] == image.words[y]
         && (image.words[x] == 0 || image.words[x + 1] == image.words[y + 1])
 }
@@ -95,56 +114,47 @@ pub fn compare(
     requires original_bound { (original.0 < count_at 6 image.words.now) × (replacement.0 < count_at 6 image.words.now) }
     ensures { Compares result image.entry.words.now image.entry.tags.now image.entry.n original.0 replacement.0 }
 {
-    let i = original.0 as usize;
-    let k = replacement.0 as usize;
-    if !arguments_agree(image, i, k) {
+    if !arguments_agree(image, original, replacement) {
         return Err(Refusal::ArgumentTypes);
     }
-    if !results_agree(image, i, k) {
+    if !results_agree(image, original, replacement) {
         return Err(Refusal::ResultTypes);
     }
     Ok((original, replacement))
 }
 
 // The tests in sequence: the numbers given, both names, the argument types, and the result types.
-fn test(
-    image: Image,
-    original: u32,
-    replacement: u32,
-    omit: &[u32],
-) -> Result<(FunctionHandle, FunctionHandle), Refusal>
+fn test(image: Image, request: Request) -> Result<(FunctionHandle, FunctionHandle), Refusal>
     requires { Tape image.words.now image.tags.now image.n }
-    ensures { Tests result image.entry.words.now image.entry.tags.now image.entry.n original replacement omit.now }
+    ensures { Tests result image.entry.words.now image.entry.tags.now image.entry.n request.entry.original request.entry.replacement request.entry.omit.now }
 {
-    if !inside(
-        original,
-        replacement,
-        omit,
-        count(image.words, NAMES) as u32,
-    ) {
+    if !inside(request, count(image.words, NAMES) as u32) {
         return Err(Refusal::NumberGiven);
     }
-    let a = find(image, original).ok_or(Refusal::OriginalNotFound)?;
-    let b = find(image, replacement).ok_or(Refusal::ReplacementNotFound)?;
+    let a = find(image, request.original).ok_or(Refusal::OriginalNotFound)?;
+    let b = find(image, request.replacement).ok_or(Refusal::ReplacementNotFound)?;
     compare(image, a, b)
 }
 
-// Calls of the function named `original` become calls of the function named `replacement`, but for those in the replacement and in the functions
+// Calls of the function with the original's name become calls of the function with the replacement's, but for those in the replacement and in the functions
 // whose names are omitted; entry points always change.
 pub fn redirect_words(
     words: &mut Words,
     tags: &Tags,
     n: usize,
-    original: u32,
-    replacement: u32,
-    omit: &[u32],
+    request: Request,
 ) -> Result<(FunctionHandle, FunctionHandle), Refusal>
     requires { Tape words.old tags.now n }
-    ensures { Redirects result words.new words.old tags.now n original replacement omit.now }
+    ensures { Redirects result words.new words.old tags.now n request.entry.original request.entry.replacement request.entry.omit.now }
 {
-    let (a, b) = test(Image { words, tags, n }, original, replacement, omit)?;
-    redirect_all(words, tags, n, a.0, b.0, omit);
-    Ok((a, b))
+    let (original, replacement) = test(Image { words, tags, n }, request)?;
+    let redirection = Redirection {
+        original,
+        replacement,
+        omit: request.omit,
+    };
+    redirect_all(words, tags, n, redirection);
+    Ok((original, replacement))
 }
 
 // The same of an image whose words are loaded and laid out: where it is accepted, the words go back to its bytes.
@@ -153,15 +163,13 @@ pub fn redirect_loaded(
     words: &mut Words,
     tags: &Tags,
     n: usize,
-    original: u32,
-    replacement: u32,
-    omit: &[u32],
+    request: Request,
 ) -> Result<(FunctionHandle, FunctionHandle), Refusal>
     requires tape { Tape words.old tags.now n }
     requires image_len { length image.old ≡ 4 * n }
-    ensures { Stores result image.new image.old words.old tags.now n original replacement omit.now }
+    ensures { Stores result image.new image.old words.old tags.now n request.entry.original request.entry.replacement request.entry.omit.now }
 {
-    let both = redirect_words(words, tags, n, original, replacement, omit)?;
+    let both = redirect_words(words, tags, n, request)?;
     store(words, n, image);
     Ok(both)
 }

@@ -6,7 +6,6 @@ use Prim.Native.Nat.{ℕ, suc, ◌+◌, ◌*◌, ◌≤◌, ◌<◌}
 use native.Mathlib.Omega.{arith}
 use lib.ListN.{length, get_or, replicate}
 use lib.Seq.{sets}
-use Rattle.derive_state.specs.Refers.{target_bytes}
 use Rattle.derive_state.specs.Sizes.{Sizes}
 use Rattle.function_builder.specs.Stacks.{Stacks}
 use Rattle.derive_session.specs.Valid.{session_of, ValidSession}
@@ -18,7 +17,7 @@ use Rattle.session.proofs.Running.{Left, left_start, left_end, left_next}
 
 -- between the steps
 pub record Going (sources steps answers₀ output₀ : List ℕ) (count : ℕ) (answers output words tags log logtags : List ℕ) (starts maps : List (List ℕ)) (buckets special : List ℕ) (stacks : List (List ℕ)) (e : Sizes) (set : Bool) (n o first i : ℕ) : Type 0 where
-  pub live : ValidSession set n o words tags target_bytes log logtags starts maps buckets special e
+  pub live : ValidSession set n o words tags log logtags starts maps buckets special e
   pub stacks_are : Stacks stacks e
   pub left : Left sources steps answers₀ output₀ i first answers output (session_of set n o words log logtags starts maps special e)
   pub below : i ≤ count
@@ -27,9 +26,8 @@ pub record Going (sources steps answers₀ output₀ : List ℕ) (count : ℕ) (
 
 -- ---- the start: arrays of these lengths, whose contents do not matter
 module _ (words tags log logtags : List ℕ) (starts stacks : List (List ℕ)) (words_long : length words ≡ 16384) (tape_long : length tags ≡ 16384) (P : ScratchLengths log logtags starts stacks) where
-  empty-first : Empty words tags target_bytes log logtags starts (replicate 16384 0) (replicate 1027 0)
+  empty-first : Empty words tags log logtags starts (replicate 16384 0) (replicate 1027 0)
   empty-first = record {
-    targets_are = refl;
     words_long = words_long;
     tape_long = tape_long;
     log_long = P.log_long;
@@ -44,9 +42,9 @@ module _ (words tags log logtags : List ℕ) (starts stacks : List (List ℕ)) (
   stacks_first : Stacks stacks Nothing
   stacks_first = record { four = P.stacks_four; rows = P.stacks_rows; high = omega arith; high' = omega arith }
 
-  module _ (sources steps answers₀ output₀ : List ℕ) (count : ℕ) (maps : List (List ℕ)) (hm : maps ≡ unmapped) (e : Sizes) (he : e ≡ Nothing) (all : 4 * count ≤ length steps) (more : length steps < 4 * count + 4) where
-    pub going_first : Going sources steps answers₀ output₀ count answers₀ output₀ words tags log logtags starts maps (replicate 16384 0) (replicate 1027 0) stacks e false 0 0 0 0
-    going_first = rw (hm, he) (record { live = valid_new empty-first 0 0; stacks_are = stacks_first; left = left_start sources steps answers₀ output₀ _ (starts-new empty-first 0 0); below = omega arith; all = all; no_more = more })
+  module _ (sources steps answers₀ output₀ : List ℕ) (count : ℕ) (maps : List (List ℕ)) (hm : maps ≡ unmapped) (special : List ℕ) (hs : special ≡ replicate 1027 0) (e : Sizes) (he : e ≡ Nothing) (all : 4 * count ≤ length steps) (more : length steps < 4 * count + 4) where
+    pub going_first : Going sources steps answers₀ output₀ count answers₀ output₀ words tags log logtags starts maps (replicate 16384 0) special stacks e false 0 0 0 0
+    going_first = rw (hm, hs, he) (record { live = valid_new empty-first 0 0; stacks_are = stacks_first; left = left_start sources steps answers₀ output₀ _ (starts-new empty-first 0 0); below = omega arith; all = all; no_more = more })
 
 module _ (sources steps answers₀ output₀ : List ℕ) (count : ℕ) (answers output words tags log logtags : List ℕ) (starts maps : List (List ℕ)) (buckets special : List ℕ) (stacks : List (List ℕ)) (e : Sizes) (set : Bool) (n o first i : ℕ) (G : Going sources steps answers₀ output₀ count answers output words tags log logtags starts maps buckets special stacks e set n o first i) where
   pub going_last : count ≤ i → SessionEnsures sources steps answers₀ output₀ first answers output
@@ -54,7 +52,7 @@ module _ (sources steps answers₀ output₀ : List ℕ) (count : ℕ) (answers 
 
   pub going_next : i < count → (k u v : ℕ) → k < 4294967296 → (output' words' tags' log' logtags' : List ℕ) (starts' maps' : List (List ℕ)) (buckets' special' : List ℕ) (stacks' : List (List ℕ)) (e' : Sizes) (set' : Bool) (n' o' first' i' : ℕ)
       → PerformEnsures (saying (get_or steps (4 * i) 0) (get_or steps (4 * i + 1) 0) (get_or steps (4 * i + 2) 0) (get_or steps (4 * i + 3) 0) sources output (session_of set n o words log logtags starts maps special e)) k u v output output' (session_of set' n' o' words' log' logtags' starts' maps' special' e')
-      → ValidSession set' n' o' words' tags' target_bytes log' logtags' starts' maps' buckets' special' e' → Stacks stacks' e' → first' ≡ or_else first (numbered k i) → i' ≡ suc i
+      → ValidSession set' n' o' words' tags' log' logtags' starts' maps' buckets' special' e' → Stacks stacks' e' → first' ≡ or_else first (numbered k i) → i' ≡ suc i
       → Going sources steps answers₀ output₀ count (sets answers (3 * i) (k ∷ u ∷ v ∷ [])) output' words' tags' log' logtags' starts' maps' buckets' special' stacks' e' set' n' o' first' i'
   going_next h k u v low output' words' tags' log' logtags' starts' maps' buckets' special' stacks' e' set' n' o' first' i' d live stacks_are f hi =
       let a = G.all in

@@ -3,14 +3,17 @@
 // provides, `session` in its own.
 #![tactic(auto)]
 
-ghost use Rattle.std.specs.Prelude.{◌≡◌, length};
+ghost use Rattle.std.specs.Prelude.{◌≡◌, [], ◌∷◌, length};
 ghost use Rattle.std.proofs.lemmas.List.Edits.{sets};
 ghost use Rattle.model.specs.Image.{ScratchLengths, SessionEnsures};
-ghost use Rattle.session.specs.Sessions.{or_else, numbered};
+ghost use Rattle.session_steps.specs.Stepped.{shown};
+ghost use Rattle.session.specs.Sessions.{or_else, numbered, as_number};
 
-use base_refusals::pack;
+use base_refusals::Refusal;
 use base_words::{Tags, Words};
-use derive_state::{Buckets, DerivedMut, Log, LogTags, Maps, StackRows, Starts, clear_maps, empty};
+use derive_state::{
+    Buckets, DerivedMut, Log, LogTags, Maps, Sizes, Special, StackRows, Starts, clear_maps,
+};
 use session_operations::Session;
 use session_steps::{Step, perform};
 
@@ -23,22 +26,40 @@ fn tell(answers: &mut [u32], at: usize, said: &[u32])
     answers[from..from + n].copy_from_slice(&said[..n]);
 }
 
-// The first refusal with its step's number: the one that was, or else that of step j.
-#[tactic(auto, unfolding(crate::specs::Sessions::or_else, crate::specs::Sessions::numbered))]
-fn first_of(first: u64, refusal: u32, j: usize) -> u64
-    ensures { result ≡ or_else first (numbered refusal j) }
+// A step that was refused: why, and which one.
+#[derive(Clone, Copy)]
+pub struct RefusedStep {
+    pub refusal: Refusal,
+    pub step: usize,
+}
+
+// What a step answers as three words: the refusal's number, 0 for none, and two values.
+fn words_of(said: Result<(u32, u32), Refusal>) -> [u32; 3]
+    ensures { result ≡ (shown said).refusal ∷ (shown said).first ∷ (shown said).second ∷ [] }
 {
-    if first != 0 || refusal == 0 {
-        first
-    } else {
-        pack(refusal, (j % 4294967296) as u32)
+    match said {
+        Ok((first, second)) => [0, first, second],
+        Err(refusal) => [refusal.number(), 0, 0],
     }
 }
 
-// All steps, in arrays that the caller provides. 0 if every step was accepted; else the refusal of the first refused step in the low half, and that step's
-// number in the high half. The arrays may hold anything before, and hold anything after. Nothing is required of `maps` and `buckets`: they are overwritten
-// before use.
-// A number and no `Result`, since C reads one number; and the arrays one by one, as C lends them.
+// The first step that was refused: the one that was, or else step j, if that is.
+fn first_of(
+    first: Result<(), RefusedStep>,
+    said: Result<(u32, u32), Refusal>,
+    j: usize,
+) -> Result<(), RefusedStep>
+    ensures { as_number result ≡ or_else (as_number first) (numbered (shown said).refusal j) }
+{
+    first?;
+    match said {
+        Ok(_) => Ok(()),
+        Err(refusal) => Err(RefusedStep { refusal, step: j }),
+    }
+}
+
+// All steps, in arrays that the caller provides, one by one, as C lends them: the first step that was refused, if one was. The arrays may hold anything before, and
+// hold anything after. Nothing is required of `maps` and `buckets`: they are overwritten before use.
 pub fn session_in(
     sources: &[u8],
     steps: &[u32],
@@ -52,15 +73,15 @@ pub fn session_in(
     maps: &mut Maps,
     buckets: &mut Buckets,
     stacks: &mut StackRows,
-) -> u64
+) -> Result<(), RefusedStep>
     requires words_len { (length words.old ≡ 16384) × (length tags.old ≡ 16384) }
     requires scratch_lengths { ScratchLengths log.old logtags.old starts.old stacks.old }
-    ensures { SessionEnsures sources.now steps.now answers.old output.old result answers.new output.new }
+    ensures { SessionEnsures sources.now steps.now answers.old output.old (as_number result) answers.new output.new }
 {
     clear_maps(maps);
     // buckets left by another session would only cost time; the answer does not depend on them
     *buckets = [0; 16384];
-    let mut special = [0u32; 1027];
+    let mut special = Special::new();
     let derived = DerivedMut {
         log,
         logtags,
@@ -75,9 +96,9 @@ pub fn session_in(
         derived,
         special: &mut special,
         stacks,
-        sizes: empty(),
+        sizes: Sizes::empty(),
     };
-    let mut first: u64 = 0;
+    let mut first = Ok(());
     let count = steps.len() / 4;
     for j in 0..count {
         let step = Step {
@@ -87,16 +108,20 @@ pub fn session_in(
             c: steps[4 * j + 3],
         };
         let said = perform(&mut session, sources, output, step);
-        tell(answers, 3 * j, &[said.refusal, said.first, said.second]);
-        first = first_of(first, said.refusal, j);
+        tell(answers, 3 * j, &words_of(said));
+        first = first_of(first, said, j);
     }
     first
 }
 
 // The same, in arrays of its own.
-// A number and no `Result`, since C reads one number.
-pub fn session(sources: &[u8], steps: &[u32], answers: &mut [u32], output: &mut [u8]) -> u64
-    ensures { SessionEnsures sources.now steps.now answers.old output.old result answers.new output.new }
+pub fn session(
+    sources: &[u8],
+    steps: &[u32],
+    answers: &mut [u32],
+    output: &mut [u8],
+) -> Result<(), RefusedStep>
+    ensures { SessionEnsures sources.now steps.now answers.old output.old (as_number result) answers.new output.new }
 {
     let mut words = [0u32; 16384];
     let mut tags = [0u8; 16384];

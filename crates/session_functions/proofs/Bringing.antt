@@ -18,6 +18,7 @@ use Rattle.model.specs.Bodies.{known, append, follow}
 use Rattle.model.specs.Refusals.{NUMBER_GIVEN, NO_SOURCE, FULL, UNKNOWN_RING}
 use Rattle.model.specs.Session.{Source, Session, Answer, answered, refused, after, with_source, unless_full, meets_ring, import_function, map_function_handle}
 use Rattle.theory_sessions.specs.Operating.{does, functions, handles}
+use Rattle.theory_sessions.specs.Holding.{handle_last}
 use Rattle.derive_imports.proofs.Growth.{Grow}
 use Rattle.derive_limits.proofs.Growing.{function_grows, follow_grows}
 use Rattle.derive_limits.specs.Reached.{Reached, At, Public}
@@ -32,7 +33,6 @@ use Rattle.derive_state.specs.Sizes.{Sizes}
 use Rattle.derive_state.proofs.State.{table_long, tab_long}
 use Rattle.derive_state.proofs.Laws.{none-held}
 use Rattle.function_nesting.specs.Nested.{append_s, follow_s}
-use Rattle.derive_lookup.specs.Bearing.{KnownEnsures}
 use Rattle.derive_session.specs.Valid.{session_of, ValidSession}
 use Rattle.session_operations.specs.Operations.{answer_of, OperationEnsures}
 use Rattle.session_functions.specs.Brought.{Brings}
@@ -64,7 +64,7 @@ module _ (n o : ℕ) (words log logtags : List ℕ) (starts maps : List (List �
   unfolding map_function_handle with_source session_of answer_of
   handle_none = record { is = refl; stays = λ q. refl }
 
-module _ (n o : ℕ) (words tags targets log logtags : List ℕ) (starts maps : List (List ℕ)) (buckets special : List ℕ) (e : Sizes) (L : ValidSession true n o words tags targets log logtags starts maps buckets special e) where
+module _ (n o : ℕ) (words tags log logtags : List ℕ) (starts maps : List (List ℕ)) (buckets special : List ℕ) (e : Sizes) (L : ValidSession true n o words tags log logtags starts maps buckets special e) where
   abbrev m : Module
   m = mod_of words n
 
@@ -78,10 +78,10 @@ module _ (n o : ℕ) (words tags targets log logtags : List ℕ) (starts maps : 
   before = session_of true n o words log logtags starts maps special e
 
   functions_are : count_at 6 words ≡ length (mod_of words n).functions
-  functions_are = Sources.functions_are n o words tags targets log logtags starts maps buckets special e L
+  functions_are = Sources.functions_are n o words tags log logtags starts maps buckets special e L
 
   at : At x s
-  at = Sources.at n o words tags targets log logtags starts maps buckets special e L
+  at = Sources.at n o words tags log logtags starts maps buckets special e L
 
   -- ---- what becomes of its state
   module _ (g : Derived → Derived) (R : Derived) (same : g s ≡ R) (there : At x R) (more : Grow s R)
@@ -107,12 +107,11 @@ module _ (n o : ℕ) (words tags targets log logtags : List ℕ) (starts maps : 
       unfolding session_of
       session-stays = ap (λ (t : Derived). record { source = some x; state = t }) (B.stays q).0
 
-      pub live-stays : ValidSession true n o words tags targets log' logtags' starts' maps' buckets' special e
+      pub live-stays : ValidSession true n o words tags log' logtags' starts' maps' buckets' special e
       live-stays = record {
         reached = subst Reached (sym session-stays) L.reached;
         kept = (B.stays q).1;
         specials = L.specials;
-        targets_are = L.targets_are;
         words_long = L.words_long;
         tape_long = L.tape_long;
         taped = L.taped;
@@ -150,12 +149,11 @@ module _ (n o : ℕ) (words tags targets log logtags : List ℕ) (starts maps : 
           let d = ap (λ (t : Derived). count t.recs types) state_is in
           omega arith
 
-      pub live_done : Reached behind → ValidSession true n o words tags targets log' logtags' starts' maps' buckets' special r
+      pub live_done : Reached behind → ValidSession true n o words tags log' logtags' starts' maps' buckets' special r
       live_done h = record {
         reached = h;
         kept = K;
         specials = specials_more (B.beside q).1 types_more L.specials;
-        targets_are = L.targets_are;
         words_long = L.words_long;
         tape_long = L.tape_long;
         taped = L.taped;
@@ -192,7 +190,7 @@ module _ (n o : ℕ) (words tags targets log logtags : List ℕ) (starts maps : 
         R = append o (mod_of words n) (follow o (mod_of words n)) f s
 
         same : append_s o (mod_of words n) (follow_s o (mod_of words n) room) f s ≡ R
-        same = Sources.append-same n o words tags targets log logtags starts maps buckets special e L f room l k c
+        same = Sources.append-same n o words tags log logtags starts maps buckets special e L f room l k c
 
         there : At x R
         there = function-at at f low c
@@ -208,7 +206,7 @@ module _ (n o : ℕ) (words tags targets log logtags : List ℕ) (starts maps : 
         unfolding answer_of
         import_full q = record { is = import_is ∙ answer_full _ R same there more r log' logtags' starts' maps' buckets' stacks B q _; stays = λ z. session-stays _ R same there more r log' logtags' starts' maps' buckets' stacks B q }
 
-        pub import_full_live : r.full ≡ true → ValidSession true n o words tags targets log' logtags' starts' maps' buckets' special e
+        pub import_full_live : r.full ≡ true → ValidSession true n o words tags log' logtags' starts' maps' buckets' special e
         import_full_live q = live-stays _ R same there more r log' logtags' starts' maps' buckets' stacks B q
 
         module _ (q : r.full ≡ false) where
@@ -220,7 +218,7 @@ module _ (n o : ℕ) (words tags targets log logtags : List ℕ) (starts maps : 
           unfolding answer_of
           import_done v p = record { is = rw p import_answers; stays = λ z. absurd (omega arith) }
 
-          pub import_done_live : ValidSession true n o words tags targets log' logtags' starts' maps' buckets' special r
+          pub import_done_live : ValidSession true n o words tags log' logtags' starts' maps' buckets' special r
           unfolding does after Public
           import_done_live = live_done _ R same there more r log' logtags' starts' maps' buckets' stacks B q (subst (λ (a : Answer ℕ). Reached (after before a)) import_answers (does-reached (functions f) tt before L.reached))
 
@@ -236,7 +234,7 @@ module _ (n o : ℕ) (words tags targets log logtags : List ℕ) (starts maps : 
         Q = follow o (mod_of words n) f s
 
         same' : follow_s o (mod_of words n) room f s ≡ Q
-        same' = Sources.follow-same n o words tags targets log logtags starts maps buckets special e L f room l k c
+        same' = Sources.follow-same n o words tags log logtags starts maps buckets special e L f room l k c
 
         there' : At x Q
         there' = handle_at at f low c
@@ -252,18 +250,24 @@ module _ (n o : ℕ) (words tags targets log logtags : List ℕ) (starts maps : 
         unfolding answer_of
         handle_full q = record { is = handle_is ∙ answer_full _ Q same' there' more' r log' logtags' starts' maps' buckets' stacks B q _; stays = λ z. session-stays _ Q same' there' more' r log' logtags' starts' maps' buckets' stacks B q }
 
-        pub handle_full_live : r.full ≡ true → ValidSession true n o words tags targets log' logtags' starts' maps' buckets' special e
+        pub handle_full_live : r.full ≡ true → ValidSession true n o words tags log' logtags' starts' maps' buckets' special e
         handle_full_live q = live-stays _ Q same' there' more' r log' logtags' starts' maps' buckets' stacks B q
 
         module _ (q : r.full ≡ false) where
+          -- by its name, which the state that is left has
           handle_answers : map_function_handle f before ≡ answered (pred (known (mod_of words n) (st_of words log' logtags' starts' maps' special r) f)) (session_of true n o words log' logtags' starts' maps' special r)
           handle_answers = handle_is ∙ answer_done _ Q same' there' more' r log' logtags' starts' maps' buckets' stacks B q _
               ∙ ap (λ (t : Derived). answered (pred (known (mod_of words n) t f)) (session_of true n o words log' logtags' starts' maps' special r)) (state_is _ Q same' there' more' r log' logtags' starts' maps' buckets' stacks B q)
 
-          pub handle_done : (d : ℕ) → KnownEnsures words n log' logtags' starts' r f d → (v : ℕ) → v ≡ pred d → OperationEnsures {A = ℕ} (map_function_handle f) before 0 v (session_of true n o words log' logtags' starts' maps' special r)
+          pub handle_done : (d : ℕ) → d ≡ known (mod_of words n) (st_of words log' logtags' starts' maps' special r) f → (v : ℕ) → v ≡ pred d → OperationEnsures {A = ℕ} (map_function_handle f) before 0 v (session_of true n o words log' logtags' starts' maps' special r)
           unfolding answer_of
-          handle_done d h v p = record { is = rw (p, h.is maps' special) handle_answers; stays = λ z. absurd (omega arith) }
+          handle_done d h v p = record { is = rw (p, h) handle_answers; stays = λ z. absurd (omega arith) }
 
-          pub handle_done_live : ValidSession true n o words tags targets log' logtags' starts' maps' buckets' special r
+          -- it was not known: then it is the last function
+          pub handle_made : known (mod_of words n) s f ≡ 0 → get_or r.counts 6 0 ≡ known (mod_of words n) (st_of words log' logtags' starts' maps' special r) f
+          handle_made z = sym (functions_long _ Q same' there' more' r log' logtags' starts' maps' buckets' stacks B q) ∙ sym (handle_last (mod_of words n) at.set.well at.set.passes o f s low c at.set.holds z)
+              ∙ ap (λ (t : Derived). known (mod_of words n) t f) (state_is _ Q same' there' more' r log' logtags' starts' maps' buckets' stacks B q)
+
+          pub handle_done_live : ValidSession true n o words tags log' logtags' starts' maps' buckets' special r
           unfolding does after Public
           handle_done_live = live_done _ Q same' there' more' r log' logtags' starts' maps' buckets' stacks B q (subst (λ (a : Answer ℕ). Reached (after before a)) handle_answers (does-reached (handles f) tt before L.reached))

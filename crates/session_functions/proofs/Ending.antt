@@ -48,9 +48,9 @@ large g room p = rw (write_if_fits, p)
 stacks_of : {stacks : List (List ℕ)} {e r : Sizes} → Stacks stacks r → (e.exprtop ≡ 0) × (e.bodytop ≡ 0) → Stacks stacks e
 stacks_of S z = record { four = S.four; rows = S.rows; high = omega (arith, z.0); high' = omega (arith, z.1) }
 
-module _ (set : Bool) (n o : ℕ) (words tags targets log logtags : List ℕ) (starts maps : List (List ℕ)) (buckets special : List ℕ) (e : Sizes) (L : ValidSession set n o words tags targets log logtags starts maps buckets special e) (stacks : List (List ℕ)) (S : Stacks stacks e) (output₀ : List ℕ) where
+module _ (set : Bool) (n o : ℕ) (words tags log logtags : List ℕ) (starts maps : List (List ℕ)) (buckets special : List ℕ) (e : Sizes) (L : ValidSession set n o words tags log logtags starts maps buckets special e) (stacks : List (List ℕ)) (S : Stacks stacks e) (output₀ : List ℕ) where
   abbrev Ends_with : ℕ → ℕ → List ℕ → Bool → List ℕ → List ℕ → List (List ℕ) → List ℕ → List ℕ → List (List ℕ) → Sizes → Type 0
-  Ends_with refusal bytes output set' log' logtags' maps' buckets' special' stacks' r = FinishEnsures (finish_with_entry_points (length output₀) (session_of set n o words log logtags starts maps special e)) (session_of set n o words log logtags starts maps special e) refusal bytes output₀ output (session_of set' n o words log' logtags' starts maps' special' r) × (ValidSession set' n o words tags targets log' logtags' starts maps' buckets' special' r × Stacks stacks' r)
+  Ends_with refusal bytes output set' log' logtags' maps' buckets' special' stacks' r = FinishEnsures (finish_with_entry_points (length output₀) (session_of set n o words log logtags starts maps special e)) (session_of set n o words log logtags starts maps special e) refusal bytes output₀ output (session_of set' n o words log' logtags' starts maps' special' r) × (ValidSession set' n o words tags log' logtags' starts maps' buckets' special' r × Stacks stacks' r)
 
   pub end_none : not set ≡ true → Ends_with NO_SOURCE 0 output₀ set log logtags maps buckets special stacks e
   unfolding finish_with_entry_points with_source session_of told
@@ -60,7 +60,7 @@ module _ (set : Bool) (n o : ℕ) (words tags targets log logtags : List ℕ) (s
     abbrev p : set ≡ true
     p = is_set set z
 
-    pub live : ValidSession true n o words tags targets log logtags starts maps buckets special e
+    pub live : ValidSession true n o words tags log logtags starts maps buckets special e
     live = rw p at L
 
     abbrev x : Source
@@ -94,12 +94,11 @@ module _ (set : Bool) (n o : ℕ) (words tags targets log logtags : List ℕ) (s
           unfolding session_of
           same = ap (λ (t : Derived). record { source = some x; state = t }) (st_stays log logtags log' logtags' starts maps buckets buckets' e L.kept N.below N.log_long N.tags_long N.marks_stay words special)
 
-          live_same : ValidSession true n o words tags targets log' logtags' starts maps buckets' special e
+          live_same : ValidSession true n o words tags log' logtags' starts maps buckets' special e
           live_same = record {
             reached = subst Reached (sym same) live.reached;
             kept = kept-stays log logtags log' logtags' starts maps buckets buckets' e L.kept N.below N.log_long N.tags_long N.marks_stay;
             specials = live.specials;
-            targets_are = live.targets_are;
             words_long = live.words_long;
             tape_long = live.tape_long;
             taped = live.taped;
@@ -112,7 +111,7 @@ module _ (set : Bool) (n o : ℕ) (words tags targets log logtags : List ℕ) (s
           -- 21 on the way
           full_answer : r.full ≡ true → finish_with_entry_points (length output₀) before ≡ refused FULL
           unfolding finish_with_entry_points with_source session_of with_entries
-          full_answer f = free R (write_if_fits (with_entries x s) (length output₀)) end-free ∙ large (with_entries x s) (length output₀) ((exact-end (Sources.at n o words tags targets log logtags starts maps buckets special e live) end-free).full (N.over f))
+          full_answer f = free R (write_if_fits (with_entries x s) (length output₀)) end-free ∙ large (with_entries x s) (length output₀) ((exact-end (Sources.at n o words tags log logtags starts maps buckets special e live) end-free).full (N.over f))
 
           pub end_full : r.full ≡ true → (stacks'' : List (List ℕ)) → stacks'' ≡ replicate 4 (replicate 16384 0) → Ends_with FULL 0 output₀ set log' logtags' maps buckets' special stacks'' e
           unfolding told
@@ -135,9 +134,8 @@ module _ (set : Bool) (n o : ℕ) (words tags targets log logtags : List ℕ) (s
 
               -- it starts afresh
               module _ (ok : k ≡ 0) (maps'' : List (List ℕ)) (hm : maps'' ≡ unmapped) (r' : Sizes) (hr : r' ≡ Nothing) where
-                empty : Empty words tags targets log' logtags' starts buckets' (unset special)
+                empty : Empty words tags log' logtags' starts buckets' (unset special)
                 empty = record {
-                  targets_are = L.targets_are;
                   words_long = L.words_long;
                   tape_long = L.tape_long;
                   log_long = N.log_long;

@@ -2,12 +2,11 @@
 // is as it was. The stacks of functions under construction are empty between operations.
 #![tactic(auto)]
 
-ghost use Rattle.std.specs.Prelude.{◌≡◌, true, false, [], ◌∷◌, ℕ, ◌<◌, length, replicate};
+ghost use Rattle.std.specs.Prelude.{◌≡◌, true, ℕ, ◌<◌, length, replicate};
 ghost use Rattle.model.specs.Module.{count_at};
-ghost use Rattle.model.specs.Callees.{callees};
 ghost use Rattle.model.specs.Redirect.{function};
-ghost use Rattle.model.specs.Session.{meets_ring, import_function, map_function_handle, finish_with_entry_points};
-ghost use Rattle.function_nesting.specs.Nested.{append_s, follow_s};
+ghost use Rattle.model.specs.Session.{import_function, map_function_handle, finish_with_entry_points};
+ghost use Rattle.function_nesting.specs.Nested.{append_s, follow_s, Ready, ReadyF};
 ghost use Rattle.derive_state.specs.Source.{mod_of};
 ghost use Rattle.derive_state.specs.Sizes.{going};
 ghost use Rattle.derive_state.specs.Held.{st_of};
@@ -17,16 +16,15 @@ ghost use Rattle.derive_finish.specs.Told.{refusal_of, bytes_in};
 ghost use Rattle.session_operations.specs.Answers.{value_in};
 ghost use Rattle.session_operations.specs.Sessions.{Valid, Operates, Finishes};
 ghost use Rattle.session_functions.specs.Brought.{BringsTo};
-ghost use Rattle.derive_state.specs.Refers.{target_bytes};
 
 use base_refusals::Refusal;
 use base_views::{FUNCTIONS, count};
 use derive_lookup::known;
 use derive_rings::{entries_ring, follow_rings, import_rings};
-use derive_snapshot::{Snapshot, restore, save};
+use derive_snapshot::{Snapshot, restore};
 use derive_state::{DerivedMut, Full, ShaderSource, Sizes, Special, StackRows, number_of};
 use function_entry::enter_all;
-use function_localize::{append, follow};
+use function_localize::append;
 use session_operations::{Session, renew};
 
 // Empties the stacks of functions under construction.
@@ -36,8 +34,7 @@ fn empty_stacks(stacks: &mut StackRows)
     *stacks = [[0; 16384]; 4];
 }
 
-// Appends function f; where it does not fit nothing has changed. One function for this and the next would take what lies between saving and undoing as a closure
-// that writes all that they write, of which a contract would have to say all that these two say.
+// Appends function f, with room for so many functions in progress beside it; where it does not fit nothing has changed.
 fn append_or_undo(
     source: ShaderSource,
     derived: &mut DerivedMut,
@@ -47,47 +44,14 @@ fn append_or_undo(
     f: usize,
     room: usize,
 ) -> Result<Sizes, Full>
-    requires valid_session { ValidSession true source.image.n source.offset source.image.words.now source.image.tags.now target_bytes derived.old.log.now derived.old.logtags.now derived.old.starts.now derived.old.maps.now derived.old.buckets.now special.now (going ends) }
-    requires f_bound { (f < count_at 6 source.image.words.now) × (room ≡ count_at 6 source.image.words.now) × (Stacks stacks.old (going ends)) }
-    requires ends_value { meets_ring (f ∷ callees (function (mod_of source.image.words.now source.image.n) f)) (mod_of source.image.words.now source.image.n) (st_of source.image.words.now derived.old.log.now derived.old.logtags.now derived.old.starts.now derived.old.maps.now special.now (going ends)) ≡ false }
+    requires valid_session { ValidSession true source.image.n source.offset source.image.words.now source.image.tags.now derived.old.log.now derived.old.logtags.now derived.old.starts.now derived.old.maps.now derived.old.buckets.now special.now (going ends) }
+    requires f_bound { (f < count_at 6 source.image.words.now) × Stacks stacks.old (going ends) }
+    requires ready { ReadyF source.offset (mod_of source.image.words.now source.image.n) (Ready source.offset (mod_of source.image.words.now source.image.n) room) (follow_s source.offset (mod_of source.image.words.now source.image.n) room) (function (mod_of source.image.words.now source.image.n) f) (st_of source.image.words.now derived.old.log.now derived.old.logtags.now derived.old.starts.now derived.old.maps.now special.now (going ends)) }
     ensures { BringsTo source.entry.image.words.now special.now (append_s source.entry.offset (mod_of source.entry.image.words.now source.entry.image.n) (follow_s source.entry.offset (mod_of source.entry.image.words.now source.entry.image.n) room) f) derived.old ends result derived.new stacks.new }
 {
-    let mut saved = Snapshot {
-        starts: [[0; 512]; 8],
-        maps: [[0; 512]; 6],
-    };
-    save(source.image.words, &derived.view(ends), &mut saved);
+    let saved = Snapshot::of(source.image.words, &derived.view(ends));
     let mut places = [0u16; 1025];
     let got = append(source, derived, stacks, &mut places, ends, f, room);
-    if got.is_err() {
-        restore(derived.starts, derived.maps, &saved);
-        empty_stacks(stacks);
-    }
-    got
-}
-
-// Imports function f if its name is not known; where it does not fit nothing has changed.
-fn follow_or_undo(
-    source: ShaderSource,
-    derived: &mut DerivedMut,
-    special: &Special,
-    stacks: &mut StackRows,
-    ends: Sizes,
-    f: usize,
-    room: usize,
-) -> Result<Sizes, Full>
-    requires valid_session { ValidSession true source.image.n source.offset source.image.words.now source.image.tags.now target_bytes derived.old.log.now derived.old.logtags.now derived.old.starts.now derived.old.maps.now derived.old.buckets.now special.now (going ends) }
-    requires f_bound { (f < count_at 6 source.image.words.now) × (room ≡ count_at 6 source.image.words.now) × (Stacks stacks.old (going ends)) }
-    requires ends_value { meets_ring (f ∷ []) (mod_of source.image.words.now source.image.n) (st_of source.image.words.now derived.old.log.now derived.old.logtags.now derived.old.starts.now derived.old.maps.now special.now (going ends)) ≡ false }
-    ensures { BringsTo source.entry.image.words.now special.now (follow_s source.entry.offset (mod_of source.entry.image.words.now source.entry.image.n) room f) derived.old ends result derived.new stacks.new }
-{
-    let mut saved = Snapshot {
-        starts: [[0; 512]; 8],
-        maps: [[0; 512]; 6],
-    };
-    save(source.image.words, &derived.view(ends), &mut saved);
-    let mut places = [0u16; 1025];
-    let got = follow(source, derived, stacks, &mut places, ends, f, room, 0, 0);
     if got.is_err() {
         restore(derived.starts, derived.maps, &saved);
         empty_stacks(stacks);
@@ -113,7 +77,7 @@ pub fn import_function(session: &mut Session, f: u32) -> Result<u32, Refusal>
     ) {
         return Err(Refusal::UnknownRing);
     }
-    let Ok(sizes) = append_or_undo(
+    let sizes = append_or_undo(
         source,
         &mut session.derived,
         session.special,
@@ -121,9 +85,7 @@ pub fn import_function(session: &mut Session, f: u32) -> Result<u32, Refusal>
         session.sizes,
         f as usize,
         room,
-    ) else {
-        return Err(Refusal::Full);
-    };
+    )?;
     session.sizes = sizes;
     Ok(number_of(sizes.counts[FUNCTIONS] as u32))
 }
@@ -146,20 +108,21 @@ pub fn map_function_handle(session: &mut Session, f: u32) -> Result<u32, Refusal
     ) {
         return Err(Refusal::UnknownRing);
     }
-    let Ok(sizes) = follow_or_undo(
+    let view = session.derived.view(session.sizes);
+    if let Some(handle) = known(source.image, &view, f as usize) {
+        return Ok(handle);
+    }
+    let sizes = append_or_undo(
         source,
         &mut session.derived,
         session.special,
         session.stacks,
         session.sizes,
         f as usize,
-        room,
-    ) else {
-        return Err(Refusal::Full);
-    };
+        room - 1,
+    )?;
     session.sizes = sizes;
-    let handle = known(source.image, &session.derived.view(sizes), f as usize).unwrap_or(0);
-    Ok(handle)
+    Ok(number_of(sizes.counts[FUNCTIONS] as u32))
 }
 
 // finish, with the source's entry points. They stay in no session: starts and maps are restored, whether it is refused or not.
@@ -172,8 +135,10 @@ pub fn finish_with_entries(session: &mut Session, output: &mut [u8]) -> Result<u
     if entries_ring(source.image, &session.derived.view(session.sizes)) {
         return Err(Refusal::UnknownRing);
     }
-    let starts = *session.derived.starts;
-    let maps = *session.derived.maps;
+    let saved = Snapshot {
+        starts: *session.derived.starts,
+        maps: *session.derived.maps,
+    };
     let Ok(sizes) = enter_all(
         source,
         &mut session.derived,
@@ -181,8 +146,8 @@ pub fn finish_with_entries(session: &mut Session, output: &mut [u8]) -> Result<u
         session.stacks,
         session.sizes,
     ) else {
-        *session.derived.starts = starts;
-        *session.derived.maps = maps;
+        let derived = &mut session.derived;
+        restore(derived.starts, derived.maps, &saved);
         empty_stacks(session.stacks);
         return Err(Refusal::Full);
     };
@@ -193,8 +158,8 @@ pub fn finish_with_entries(session: &mut Session, output: &mut [u8]) -> Result<u
         &mut out,
         output,
     );
-    *session.derived.starts = starts;
-    *session.derived.maps = maps;
+    let derived = &mut session.derived;
+    restore(derived.starts, derived.maps, &saved);
     let bytes = ended?;
     renew(session);
     Ok(bytes)

@@ -50,7 +50,7 @@ module _ (special : List ℕ) (long : length special ≡ 1027) where
   unset_all (suc (suc zero)) h = unset_third
   unset_all (suc (suc (suc i))) h = absurd (omega arith)
 
-module _ (set : Bool) (n o : ℕ) (words tags targets log logtags : List ℕ) (starts maps : List (List ℕ)) (buckets special : List ℕ) (e : Sizes) (L : ValidSession set n o words tags targets log logtags starts maps buckets special e) where
+module _ (set : Bool) (n o : ℕ) (words tags log logtags : List ℕ) (starts maps : List (List ℕ)) (buckets special : List ℕ) (e : Sizes) (L : ValidSession set n o words tags log logtags starts maps buckets special e) where
   abbrev before : Session
   before = session_of set n o words log logtags starts maps special e
 
@@ -67,16 +67,15 @@ module _ (set : Bool) (n o : ℕ) (words tags targets log logtags : List ℕ) (s
         go false = finish-told d L.no_entries words maps none ∙ ap (λ (a : Answer (List ℕ)). told a output₀) (sym (finish_cleared (length output₀) (st_of words log logtags starts maps special e)))
 
     -- 21, 7
-    pub finish_refused : (k ≡ 0 → ⊥) → FinishEnsures (finish (length output₀) before) before k 0 output₀ output before × ValidSession set n o words tags targets log logtags starts maps buckets special e
+    pub finish_refused : (k ≡ 0 → ⊥) → FinishEnsures (finish (length output₀) before) before k 0 output₀ output before × ValidSession set n o words tags log logtags starts maps buckets special e
     finish_refused ne =
         let z = none_written (finish (length output₀) before) output₀ k b output tells ne in
         (record { is = ap (λ (y : ℕ). (k, y, output)) (sym z) ∙ tells; done = λ q. absurd (ne q); stays = λ q. refl }, L)
 
     -- it starts afresh
     module _ (ok : k ≡ 0) (maps' : List (List ℕ)) (hm : maps' ≡ unmapped) (r : Sizes) (hr : r ≡ Nothing) where
-      empty : Empty words tags targets log logtags starts buckets (unset special)
+      empty : Empty words tags log logtags starts buckets (unset special)
       empty = record {
-        targets_are = L.targets_are;
         words_long = L.words_long;
         tape_long = L.tape_long;
         log_long = L.kept.log_long;
@@ -88,18 +87,17 @@ module _ (set : Bool) (n o : ℕ) (words tags targets log logtags : List ℕ) (s
         rays-none = unset_all special L.specials.special_long;
       }
 
-      pub finish_done : FinishEnsures (finish (length output₀) before) before 0 b output₀ output (session_of false n o words log logtags starts maps' (unset special) r) × ValidSession false n o words tags targets log logtags starts maps' buckets (unset special) r
+      pub finish_done : FinishEnsures (finish (length output₀) before) before 0 b output₀ output (session_of false n o words log logtags starts maps' (unset special) r) × ValidSession false n o words tags log logtags starts maps' buckets (unset special) r
       finish_done = rw (hm, hr) (record { is = ap (λ (y : ℕ). (y, b, output)) (sym ok) ∙ tells; done = λ q. starts-new empty n o; stays = λ q. absurd (omega arith) }, valid_new empty n o)
 
 -- ---- without a source its words and its offset do not matter
-module _ {n o : ℕ} {words tags targets log logtags : List ℕ} {starts maps : List (List ℕ)} {buckets special : List ℕ} {e : Sizes} where
-  pub unset_valid : ValidSession false n o words tags targets log logtags starts maps buckets special e → ValidSession false 0 0 words tags targets log logtags starts maps buckets special e
+module _ {n o : ℕ} {words tags log logtags : List ℕ} {starts maps : List (List ℕ)} {buckets special : List ℕ} {e : Sizes} where
+  pub unset_valid : ValidSession false n o words tags log logtags starts maps buckets special e → ValidSession false 0 0 words tags log logtags starts maps buckets special e
   unfolding session_of
   unset_valid L = record {
     reached = L.reached;
     kept = L.kept;
     specials = L.specials;
-    targets_are = L.targets_are;
     words_long = L.words_long;
     tape_long = L.tape_long;
     taped = λ q. absurd (false≢true q);

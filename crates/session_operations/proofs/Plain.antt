@@ -1,11 +1,10 @@
 -- What an operation answers, as numbers, and the operations that leave the session as it is.
-use Rattle.std.proofs.Common.{◌≡◌, ℕ, zero, suc, ◌+◌, ◌%◌, ◌^◌, ◌<◌, Bool, true, false, not, ◌||◌, ltb, ◌⊎◌, List, get_or, sym, refl, ap, ◌∙◌, ap₂, ⊎_elim, arith, le-ltb, lt-ltb, eq-eqb, ne_eqb}
+use Rattle.std.proofs.Common.{◌≡◌, ℕ, zero, suc, ◌+◌, ◌%◌, ◌^◌, ◌<◌, Bool, true, false, not, ◌||◌, ltb, ◌⊎◌, List, sym, refl, ◌∙◌, ap₂, ⊎_elim, arith, le-ltb, lt-ltb, eq-eqb, ne_eqb}
 use mathlib.Core.Bool.{false≢true}
 use borrow.Author.Tests.{not-false}
 use Rattle.model.specs.Imports.{emptied}
 use Rattle.model.specs.References.{undefined, add, span_by}
 use Rattle.model.specs.Session.{Session, Answer, answered, refused, any_ray, has_required_special_types}
-use Rattle.model.specs.Steps.{bit}
 use Rattle.derive_state.specs.Flats.{special_of}
 use Rattle.derive_state.specs.Held.{st_of}
 use Rattle.derive_state.specs.Sizes.{Sizes}
@@ -41,42 +40,13 @@ module _ (set : Bool) (o a b : ℕ) where
 
 -- ---- has_required_special_types
 module _ (special : List ℕ) (e : Sizes) where
-  abbrev asked : Bool
-  asked = ltb 0 e.pairs || (ltb 0 (get_or special 0 0) || (ltb 0 (get_or special 1 0) || (ltb 0 (get_or special 2 0) || false)))
-
-  asks : (set : Bool) (n o : ℕ) (words log logtags : List ℕ) (starts maps : List (List ℕ)) → has_required_special_types (session_of set n o words log logtags starts maps special e) ≡ asked
+  asks : (set : Bool) (n o : ℕ) (words log logtags : List ℕ) (starts maps : List (List ℕ)) → has_required_special_types (session_of set n o words log logtags starts maps special e) ≡ ltb 0 e.pairs || any_ray (special_of special 0).rays
   unfolding has_required_special_types session_of emptied st_of special_of any_ray
   asks true n o words log logtags starts maps = rw (pairs_long special e.pairs 3)
   asks false n o words log logtags starts maps = rw (pairs_long special e.pairs 3)
 
-  requires : (r : ℕ) → r ≡ bit asked → RequiredEnsures special e r
-  requires r h = record { is = λ set n o words log logtags starts maps. h ∙ sym (ap bit (asks set n o words log logtags starts maps)) }
+  pub by-pairs : (e.pairs ≡ 0 → ⊥) → RequiredEnsures special e true
+  by-pairs h = record { is = λ set n o words log logtags starts maps. rw (asks set n o words log logtags starts maps, lt-ltb 0 e.pairs (omega arith)) refl }
 
-  some : (n : ℕ) → (n ≡ 0 → ⊥) → ltb 0 n ≡ true
-  some n h = lt-ltb 0 n (omega arith)
-
-  none : (n : ℕ) → n ≡ 0 → ltb 0 n ≡ false
-  none n h = le-ltb 0 n (omega arith)
-
-  pub by-pairs : (e.pairs ≡ 0 → ⊥) → RequiredEnsures special e 1
-  unfolding bit
-  by-pairs h = requires 1 (rw (some e.pairs h))
-
-  module _ (p : e.pairs ≡ 0) where
-    pub by_first : (get_or special 0 0 ≡ 0 → ⊥) → RequiredEnsures special e 1
-    unfolding bit
-    by_first h = requires 1 (rw (none e.pairs p, some (get_or special 0 0) h))
-
-    module _ (a : get_or special 0 0 ≡ 0) where
-      pub by_second : (get_or special 1 0 ≡ 0 → ⊥) → RequiredEnsures special e 1
-      unfolding bit
-      by_second h = requires 1 (rw (none e.pairs p, none (get_or special 0 0) a, some (get_or special 1 0) h))
-
-      module _ (b : get_or special 1 0 ≡ 0) where
-        pub by_third : (get_or special 2 0 ≡ 0 → ⊥) → RequiredEnsures special e 1
-        unfolding bit
-        by_third h = requires 1 (rw (none e.pairs p, none (get_or special 0 0) a, none (get_or special 1 0) b, some (get_or special 2 0) h))
-
-        pub by-none : get_or special 2 0 ≡ 0 → RequiredEnsures special e 0
-        unfolding bit
-        by-none c = requires 0 (rw (none e.pairs p, none (get_or special 0 0) a, none (get_or special 1 0) b, none (get_or special 2 0) c))
+  pub by_rays : e.pairs ≡ 0 → (r : Bool) → r ≡ any_ray (special_of special 0).rays → RequiredEnsures special e r
+  by_rays h r q = record { is = λ set n o words log logtags starts maps. rw (asks set n o words log logtags starts maps, le-ltb 0 e.pairs (omega arith)) q }

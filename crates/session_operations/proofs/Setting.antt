@@ -43,8 +43,8 @@ session-same true n o words log logtags log' logtags' starts maps starts' maps' 
 session-same false n o words log logtags log' logtags' starts maps starts' maps' special special' e h = ap (λ (s : Derived). record { source = none; state = emptied (six (λ t. [])) s }) h
 
 -- without a source, other words and other tags hold the same session
-pub elsewhere : {op : Session → Answer (Unit {0})} {s : Session} {k n o : ℕ} {words tags w t targets log logtags : List ℕ} {starts maps : List (List ℕ)} {buckets special : List ℕ} {e : Sizes} → length w ≡ 16384 → length t ≡ 16384
-    → OperationEnsures op s k tt (session_of false n o words log logtags starts maps special e) × ValidSession false n o words tags targets log logtags starts maps buckets special e → OperationEnsures op s k tt (session_of false n o w log logtags starts maps special e) × ValidSession false n o w t targets log logtags starts maps buckets special e
+pub elsewhere : {op : Session → Answer (Unit {0})} {s : Session} {k n o : ℕ} {words tags w t log logtags : List ℕ} {starts maps : List (List ℕ)} {buckets special : List ℕ} {e : Sizes} → length w ≡ 16384 → length t ≡ 16384
+    → OperationEnsures op s k tt (session_of false n o words log logtags starts maps special e) × ValidSession false n o words tags log logtags starts maps buckets special e → OperationEnsures op s k tt (session_of false n o w log logtags starts maps special e) × ValidSession false n o w t log logtags starts maps buckets special e
 unfolding session_of emptied st_of
 elsewhere hw ht p = (
   p.0,
@@ -52,7 +52,6 @@ elsewhere hw ht p = (
     reached = p.1.reached;
     kept = p.1.kept;
     specials = p.1.specials;
-    targets_are = p.1.targets_are;
     words_long = hw;
     tape_long = ht;
     taped = λ q. absurd (false≢true q);
@@ -93,7 +92,7 @@ module _ (image w t : List ℕ) (taken : Result ℕ Refusal) (got : TakeInEnsure
     goes : (o : ℕ) (s : Session) → setOf (length image) (words_of image) o s ≡ set_module o s (mod_of w m)
     goes o s = by_module (length image) (words_of image) o s (mod_of w m) (sym got.same ∙ ap number_of ok) (accepts.reads ∙ ap (λ (y : Module). laid y) (sym is))
 
-  module _ (set : Bool) (n offset : ℕ) (words tags targets log logtags : List ℕ) (starts maps : List (List ℕ)) (buckets special : List ℕ) (e : Sizes) (L : ValidSession set n offset words tags targets log logtags starts maps buckets special e) (o : ℕ) where
+  module _ (set : Bool) (n offset : ℕ) (words tags log logtags : List ℕ) (starts maps : List (List ℕ)) (buckets special : List ℕ) (e : Sizes) (L : ValidSession set n offset words tags log logtags starts maps buckets special e) (o : ℕ) where
     abbrev before : Session
     before = session_of set n offset words log logtags starts maps special e
 
@@ -101,7 +100,7 @@ module _ (image w t : List ℕ) (taken : Result ℕ Refusal) (got : TakeInEnsure
     op = setOf (length image) (words_of image) o
 
     -- 1 to 6
-    pub set_refused : (d : Refusal) → taken ≡ Err d → (k : ℕ) → k ≡ number_of (Err d) → OperationEnsures {A = Unit {0}} op before k tt before × ValidSession set n offset words tags targets log logtags starts maps buckets special e
+    pub set_refused : (d : Refusal) → taken ≡ Err d → (k : ℕ) → k ≡ number_of (Err d) → OperationEnsures {A = Unit {0}} op before k tt before × ValidSession set n offset words tags log logtags starts maps buckets special e
     set_refused d h k hk =
         let y = refused_by d in
         let z : k ≡ suc y.0 = hk ∙ y.1 in
@@ -112,7 +111,7 @@ module _ (image w t : List ℕ) (taken : Result ℕ Refusal) (got : TakeInEnsure
       holding = held_so set n offset words log logtags starts maps special e
 
       -- 21
-      pub set_not : r.full ≡ true → OperationEnsures {A = Unit {0}} op before 21 tt (session_of set n offset words log' logtags' starts' maps' special' e) × ValidSession set n offset words tags targets log' logtags' starts' maps' buckets' special' e
+      pub set_not : r.full ≡ true → OperationEnsures {A = Unit {0}} op before 21 tt (session_of set n offset words log' logtags' starts' maps' special' e) × ValidSession set n offset words tags log' logtags' starts' maps' buckets' special' e
       set_not q =
           let same = session-same set n offset words log logtags log' logtags' starts maps starts' maps' special special' e ((d.stays q).0 words) in (
             refuses op before _ 21 tt (omega arith) (goes m ok o before ∙ set_full L.reached (taped m ok).well (passes m ok) holding L.no_entries d q) same,
@@ -120,7 +119,6 @@ module _ (image w t : List ℕ) (taken : Result ℕ Refusal) (got : TakeInEnsure
               reached = subst Reached (sym same) L.reached;
               kept = (d.stays q).1;
               specials = (d.stays q).2;
-              targets_are = L.targets_are;
               words_long = L.words_long;
               tape_long = L.tape_long;
               taped = L.taped;
@@ -141,14 +139,13 @@ module _ (image w t : List ℕ) (taken : Result ℕ Refusal) (got : TakeInEnsure
         unfolding does Public after
         reached' = subst Reached (ap (after before) said) (does-reached (sets (length image) (words_of image) o) tt before L.reached)
 
-        pub set_so : OperationEnsures {A = Unit {0}} op before 0 tt (session_of true m o w log' logtags' starts' maps' special' r) × ValidSession true m o w t targets log' logtags' starts' maps' buckets' special' r
+        pub set_so : OperationEnsures {A = Unit {0}} op before 0 tt (session_of true m o w log' logtags' starts' maps' special' r) × ValidSession true m o w t log' logtags' starts' maps' buckets' special' r
         set_so = (
           answers op before _ tt said,
           record {
             reached = reached';
             kept = (d.is q).1;
             specials = (d.is q).2;
-            targets_are = L.targets_are;
             words_long = (taped m ok).words_long;
             tape_long = (taped m ok).tags_long;
             taped = λ z. taped m ok;

@@ -3,7 +3,6 @@ use Rattle.std.specs.Prelude.{◌≡◌, ℕ, zero, suc, ◌<◌, Bool, true, fa
 use Rattle.model.specs.Refusals.{NO_SOURCE}
 use Rattle.model.specs.References.{span_by}
 use Rattle.model.specs.Session.{Session, Answer, answered, refused, new, has_required_special_types}
-use Rattle.model.specs.Steps.{bit}
 use Rattle.derive_finish.specs.Told.{told}
 use Rattle.derive_state.specs.Sizes.{Sizes}
 use Rattle.derive_session.specs.Valid.{session_of}
@@ -24,8 +23,8 @@ pub record MapSpanEnsures (set : Bool) (o a b refusal start end : ℕ) : Type 0 
   pub is : set ≡ true → (refusal ≡ 0) × ((start, end) ≡ span_by o (a, b))
 
 -- has_required_special_types, whatever the source
-pub record RequiredEnsures (special : List ℕ) (e : Sizes) (r : ℕ) : Type 0 where
-  pub is : (set : Bool) (n o : ℕ) (words log logtags : List ℕ) (starts maps : List (List ℕ)) → r ≡ bit (has_required_special_types (session_of set n o words log logtags starts maps special e))
+pub record RequiredEnsures (special : List ℕ) (e : Sizes) (r : Bool) : Type 0 where
+  pub is : (set : Bool) (n o : ℕ) (words log logtags : List ℕ) (starts maps : List (List ℕ)) → r ≡ has_required_special_types (session_of set n o words log logtags starts maps special e)
 
 -- a finish: what is answered and left in the output, and the session after it
 pub record FinishEnsures (answer : Answer (List ℕ)) (before : Session) (refusal bytes : ℕ) (output₀ output : List ℕ) (behind : Session) : Type 0 where

@@ -1,7 +1,6 @@
 -- A session in arrays of the caller: the model's session that it means, when it is valid between two operations, and what an operation on it promises.
 use Rattle.std.specs.Prelude.{◌≡◌, ℕ, Bool, true, false, List, Option, None, Some, replicate, slice_set}
 use Rattle.model.specs.Session.{Session as Session', Answer}
-use Rattle.derive_state.specs.Refers.{target_bytes}
 use Rattle.derive_state.specs.Sizes.{going}
 use Rattle.derive_state.specs.Held.{SameArrays}
 use Rattle.function_builder.specs.Stacks.{Stacks}
@@ -29,7 +28,7 @@ meant s = session_of (is_set s.source) (n_in s.source) (offset_in s.source) s.wo
 
 -- a clause and no ghost field: that takes a proof that what it says is a proposition, and `WellFormed`, which is in `Reached`, has none
 pub record Valid (s : Session) : Type 0 where
-  pub session : ValidSession (is_set s.source) (n_in s.source) (offset_in s.source) s.words.now s.tags.now target_bytes s.derived.log.now s.derived.logtags.now s.derived.starts.now s.derived.maps.now s.derived.buckets.now s.special.now (going s.sizes)
+  pub session : ValidSession (is_set s.source) (n_in s.source) (offset_in s.source) s.words.now s.tags.now s.derived.log.now s.derived.logtags.now s.derived.starts.now s.derived.maps.now s.derived.buckets.now s.special.now (going s.sizes)
   pub stacks : Stacks s.stacks.now (going s.sizes)
 
 -- the arrays are the caller's, as they were

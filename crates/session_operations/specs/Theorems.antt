@@ -12,19 +12,18 @@ use Rattle.derive_session.specs.Valid.{session_of, ValidSession}
 use Rattle.session_operations.specs.Operations.{answer_of, OperationEnsures, MapSpanEnsures}
 
 -- ---- clear_shader_source: nothing is written
-module _ (n o : ℕ) (words tags targets log logtags : List ℕ) (starts maps : List (List ℕ)) (buckets special : List ℕ) (e : Sizes) where
+module _ (n o : ℕ) (words tags log logtags : List ℕ) (starts maps : List (List ℕ)) (buckets special : List ℕ) (e : Sizes) where
   pub clears_to : (set : Bool) → clear (session_of set n o words log logtags starts maps special e) ≡ session_of false n o words log logtags starts maps special e
   unfolding session_of clear emptied
   clears_to true = refl
   clears_to false = refl
 
-  pub valid_cleared : (set : Bool) → ValidSession set n o words tags targets log logtags starts maps buckets special e → ValidSession false n o words tags targets log logtags starts maps buckets special e
+  pub valid_cleared : (set : Bool) → ValidSession set n o words tags log logtags starts maps buckets special e → ValidSession false n o words tags log logtags starts maps buckets special e
   unfolding does Public
   valid_cleared set L = record {
     reached = subst Reached (clears_to set) (does-reached clears tt _ L.reached);
     kept = L.kept;
     specials = L.specials;
-    targets_are = L.targets_are;
     words_long = L.words_long;
     tape_long = L.tape_long;
     taped = λ q. absurd (false≢true q);

@@ -5,7 +5,7 @@
 ghost use Rattle.std.specs.Prelude.{◌≡◌, ℕ, ◌<◌, ◌≤◌, false, length};
 ghost use Rattle.base_words.specs.Words.{words_of};
 ghost use Rattle.model.specs.Session.{importing, rename_type, set as setOf, finish as finishOf};
-ghost use Rattle.derive_state.specs.Refers.{tab_of};
+ghost use Rattle.base_handles.specs.Handles.{table_of, number_in};
 ghost use Rattle.derive_state.specs.Held.{Specials};
 ghost use Rattle.derive_state.specs.Sizes.{going};
 ghost use Rattle.derive_finish.specs.Told.{refusal_of, bytes_in};
@@ -13,14 +13,14 @@ ghost use Rattle.session_operations.specs.Operations.{MapSpanEnsures, RequiredEn
 ghost use Rattle.session_operations.specs.Answers.{value_in, start_of, end_of};
 ghost use Rattle.session_operations.specs.Sessions.{is_set, offset_in, Valid, Operates, Finishes, renewed};
 
-use base_handles::TypeHandle;
+use base_handles::{RecordHandle, TypeHandle};
 use base_refusals::Refusal;
 use base_views::{Image, NAMES, TYPES, count};
 use base_words::{Tags, Words};
 use derive_finish::finish;
 use derive_rollback::mapped_to;
 use derive_source::set_source;
-use derive_state::{DerivedMut, ShaderSource, Sizes, Special, StackRows, clear_maps, empty};
+use derive_state::{DerivedMut, ShaderSource, Sizes, Special, StackRows, clear_maps};
 use std::num::wrapping_add_u32;
 
 // A source that is set: the number of its words, and the offset of its spans.
@@ -59,21 +59,19 @@ pub struct Session<'a, 'd> {
     pub sizes: Sizes,
 }
 
-// import_type, import_const, import_pipeline_override, import_global, import_global_expression: record h of table t. Its number in the derived module.
-pub fn import(session: &mut Session, t: usize, h: u32) -> Result<u32, Refusal>
-    requires le_t { (1 ≤ t) × (t < 6) }
-    requires valid { Valid session.old }
-    ensures { Operates {A = ℕ} (importing (tab_of t) h) session.old (refusal_of result) (value_in result) session.new }
+// import_type, import_const, import_pipeline_override, import_global, import_global_expression: a record of the source. Its number in the derived module.
+pub fn import(session: &mut Session, handle: RecordHandle) -> Result<u32, Refusal>
+    requires { Valid session.old }
+    ensures { Operates {A = ℕ} (importing (table_of handle) (number_in handle)) session.old (refusal_of result) (value_in result) session.new }
 {
     let set = session.source.ok_or(Refusal::NoSource)?;
+    let t = handle.section();
+    let h = handle.number();
     if count(session.words, t) <= h as usize {
         return Err(Refusal::NumberGiven);
     }
     let source = set.over(session.words, session.tags);
-    let Ok(sizes) = derive_rollback::import(source, &mut session.derived, session.sizes, t, h)
-    else {
-        return Err(Refusal::Full);
-    };
+    let sizes = derive_rollback::import(source, &mut session.derived, session.sizes, t, h)?;
     session.sizes = sizes;
     Ok(mapped_to(session.derived.view(sizes).maps, t, h))
 }
@@ -84,22 +82,17 @@ pub fn rename_type(session: &mut Session, h: u32, name: u32) -> Result<u32, Refu
     ensures { Operates {A = ℕ} (rename_type h name) session.old (refusal_of result) (value_in result) session.new }
 {
     let set = session.source.ok_or(Refusal::NoSource)?;
-    if count(session.words, TYPES) <= h as usize {
-        return Err(Refusal::NumberGiven);
-    }
-    if count(session.words, NAMES) <= name as usize {
+    if count(session.words, TYPES) <= h as usize || count(session.words, NAMES) <= name as usize {
         return Err(Refusal::NumberGiven);
     }
     let source = set.over(session.words, session.tags);
-    let Ok(sizes) = derive_rollback::rename_type(
+    let sizes = derive_rollback::rename_type(
         source,
         &mut session.derived,
         session.sizes,
         TypeHandle(h),
         name,
-    ) else {
-        return Err(Refusal::Full);
-    };
+    )?;
     session.sizes = sizes;
     Ok(mapped_to(session.derived.view(sizes).maps, TYPES, h))
 }
@@ -125,24 +118,12 @@ pub fn map_span(source: Option<SetSource>, a: u32, b: u32) -> Result<Span, Refus
     })
 }
 
-// has_required_special_types: 1 if there are any.
-pub fn has_required_special_types(special: &Special, ends: Sizes) -> u32
+// has_required_special_types
+pub fn has_required_special_types(special: &Special, ends: Sizes) -> bool
     requires { Specials special.now (going ends) }
     ensures { RequiredEnsures special.now (going ends) result }
 {
-    if ends.pairs != 0 {
-        return 1;
-    }
-    if special[0] != 0 {
-        return 1;
-    }
-    if special[1] != 0 {
-        return 1;
-    }
-    if special[2] != 0 {
-        return 1;
-    }
-    0
+    ends.pairs != 0 || special.has_ray()
 }
 
 // set_shader_source where no source is set: no source has to survive a refusal, so the image is read directly into the array of the source's words. What a
@@ -162,9 +143,7 @@ fn set_first_source(session: &mut Session, image: &[u8], offset: u32) -> Result<
     };
     let set = SetSource { n, offset };
     let source = set.over(session.words, session.tags);
-    let Ok(sizes) = set_source(source, &mut session.derived, session.special, session.sizes) else {
-        return Err(Refusal::Full);
-    };
+    let sizes = set_source(source, &mut session.derived, session.special, session.sizes)?;
     session.source = Some(set);
     session.sizes = sizes;
     Ok(())
@@ -183,9 +162,7 @@ pub fn set_shader_source(session: &mut Session, image: &[u8], offset: u32) -> Re
     let n = intake::take_in(image, &mut words, &mut tags)?;
     let set = SetSource { n, offset };
     let source = set.over(&words, &tags);
-    let Ok(sizes) = set_source(source, &mut session.derived, session.special, session.sizes) else {
-        return Err(Refusal::Full);
-    };
+    let sizes = set_source(source, &mut session.derived, session.special, session.sizes)?;
     *session.words = words;
     *session.tags = tags;
     session.source = Some(set);
@@ -198,11 +175,9 @@ pub fn renew(session: &mut Session)
     ensures { session.new ≡ renewed session.old }
 {
     clear_maps(session.derived.maps);
-    session.special[0] = 0;
-    session.special[1] = 0;
-    session.special[2] = 0;
+    session.special.clear_rays();
     session.source = None;
-    session.sizes = empty();
+    session.sizes = Sizes::empty();
 }
 
 // finish, without entry points: how many bytes were written. The session is then a new one; refused, it is as it was.

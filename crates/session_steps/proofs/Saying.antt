@@ -1,6 +1,7 @@
 -- What each operation answers and leaves is what its step answers and leaves: an operation's answer as three words, and the part of the output that a finish writes.
 use mathlib.Core.Path.{◌≡◌, refl, sym, ap, ◌∙◌, subst}
 use mathlib.Core.Bool.{Bool, true, false, false≢true}
+use mir.Val.{bool_byte}
 use mathlib.Core.List.{List}
 use Prim.Native.Nat.{ℕ, zero, suc, ◌≤◌}
 use native.Mathlib.Omega.{arith}
@@ -8,11 +9,11 @@ use lib.ListN.{length, get_or-eq_default}
 use Rattle.base_words.specs.Words.{words_of, bytes_of}
 use Rattle.model.specs.Imports.{emptied}
 use Rattle.model.specs.Session.{Session, Answer as Answered, with_source, set, clear, map_span, importing, rename_type, import_function, map_function_handle}
-use Rattle.model.specs.Steps.{Said, operations, unknown, says, perform, part}
+use Rattle.model.specs.Steps.{Said, operations, unknown, says, bit, perform, part}
 use Rattle.derive_limits.specs.Reached.{Reached, Public}
 use Rattle.derive_limits.proofs.Reached.{does-reached}
 use Rattle.theory_sessions.specs.Operating.{does, clears}
-use Rattle.derive_state.specs.Refers.{tab_of}
+use Rattle.model.specs.Tables.{types, constants, overrides, globals, exprs}
 use Rattle.derive_state.specs.Sizes.{Sizes}
 use Rattle.derive_session.specs.Valid.{session_of, ValidSession}
 use Rattle.std.specs.Prelude.{Result, Ok, Err}
@@ -46,29 +47,29 @@ module _ {o a b c : ℕ} {s s' : Session} {k v : ℕ} where
         (record { refusal_is = h.refusal_is; first_is = h.first_is; second_is = sym (value_none k) ∙ h.second_is; output_is = h.output_is; session_is = h.session_is });
   }
 
-  pub type_recorded : o ≡ 3 → OperationEnsures (importing (tab_of 1) a) s k v s' → Recorded o a b c s k (value_of k v) s'
-  unfolding operations perform tab_of
-  type_recorded e = recorded (importing (tab_of 1) a) (λ sources output. rw (e))
+  pub type_recorded : o ≡ 3 → OperationEnsures (importing types a) s k v s' → Recorded o a b c s k (value_of k v) s'
+  unfolding operations perform
+  type_recorded e = recorded (importing types a) (λ sources output. rw (e))
 
   pub rename_recorded : o ≡ 4 → OperationEnsures (rename_type a b) s k v s' → Recorded o a b c s k (value_of k v) s'
   unfolding operations perform
   rename_recorded e = recorded (rename_type a b) (λ sources output. rw (e))
 
-  pub constant_recorded : o ≡ 5 → OperationEnsures (importing (tab_of 2) a) s k v s' → Recorded o a b c s k (value_of k v) s'
-  unfolding operations perform tab_of
-  constant_recorded e = recorded (importing (tab_of 2) a) (λ sources output. rw (e))
+  pub constant_recorded : o ≡ 5 → OperationEnsures (importing constants a) s k v s' → Recorded o a b c s k (value_of k v) s'
+  unfolding operations perform
+  constant_recorded e = recorded (importing constants a) (λ sources output. rw (e))
 
-  pub override_recorded : o ≡ 6 → OperationEnsures (importing (tab_of 3) a) s k v s' → Recorded o a b c s k (value_of k v) s'
-  unfolding operations perform tab_of
-  override_recorded e = recorded (importing (tab_of 3) a) (λ sources output. rw (e))
+  pub override_recorded : o ≡ 6 → OperationEnsures (importing overrides a) s k v s' → Recorded o a b c s k (value_of k v) s'
+  unfolding operations perform
+  override_recorded e = recorded (importing overrides a) (λ sources output. rw (e))
 
-  pub global_recorded : o ≡ 7 → OperationEnsures (importing (tab_of 4) a) s k v s' → Recorded o a b c s k (value_of k v) s'
-  unfolding operations perform tab_of
-  global_recorded e = recorded (importing (tab_of 4) a) (λ sources output. rw (e))
+  pub global_recorded : o ≡ 7 → OperationEnsures (importing globals a) s k v s' → Recorded o a b c s k (value_of k v) s'
+  unfolding operations perform
+  global_recorded e = recorded (importing globals a) (λ sources output. rw (e))
 
-  pub expression_recorded : o ≡ 8 → OperationEnsures (importing (tab_of 5) a) s k v s' → Recorded o a b c s k (value_of k v) s'
-  unfolding operations perform tab_of
-  expression_recorded e = recorded (importing (tab_of 5) a) (λ sources output. rw (e))
+  pub expression_recorded : o ≡ 8 → OperationEnsures (importing exprs a) s k v s' → Recorded o a b c s k (value_of k v) s'
+  unfolding operations perform
+  expression_recorded e = recorded (importing exprs a) (λ sources output. rw (e))
 
   pub function_recorded : o ≡ 9 → OperationEnsures (import_function a) s k v s' → Recorded o a b c s k (value_of k v) s'
   unfolding operations perform
@@ -114,13 +115,12 @@ module _ (set : Bool) (n o : ℕ) (words log logtags : List ℕ) (starts maps : 
   unfolding operations perform says bytes_of
   clear-stepped = record { refusal_is = refl; first_is = refl; second_is = refl; output_is = refl; session_is = cleared }
 
-  pub clear-live : (tags targets buckets : List ℕ) → ValidSession set n o words tags targets log logtags starts maps buckets special e → ValidSession false n o words tags targets log logtags starts maps buckets special e
+  pub clear-live : (tags buckets : List ℕ) → ValidSession set n o words tags log logtags starts maps buckets special e → ValidSession false n o words tags log logtags starts maps buckets special e
   unfolding does Public
-  clear-live tags targets buckets L = record {
+  clear-live tags buckets L = record {
     reached = subst Reached (sym cleared) (does-reached clears tt held L.reached);
     kept = L.kept;
     specials = L.specials;
-    targets_are = L.targets_are;
     words_long = L.words_long;
     tape_long = L.tape_long;
     taped = λ q. absurd (false≢true q);
@@ -138,9 +138,14 @@ module _ (set : Bool) (n o : ℕ) (words log logtags : List ℕ) (starts maps : 
       go true d = let h = d.is refl in record { refusal_is = h.0; first_is = ap (λ (p : ℕ × ℕ). p.0) h.1; second_is = ap (λ (p : ℕ × ℕ). p.1) h.1; output_is = refl; session_is = refl }
       go false d = let h = d.none-set refl in record { refusal_is = h.0; first_is = h.1; second_is = h.2; output_is = refl; session_is = refl }
 
-  pub required_stepped : (r : ℕ) → RequiredEnsures special e r → PerformEnsures (saying 12 a b c sources output held) 0 r 0 output output held
+  pub required_stepped : (r : Bool) → RequiredEnsures special e r → (v : ℕ) → v ≡ bit r → PerformEnsures (saying 12 a b c sources output held) 0 v 0 output output held
   unfolding operations perform says bytes_of
-  required_stepped r d = record { refusal_is = refl; first_is = d.is set n o words log logtags starts maps; second_is = refl; output_is = refl; session_is = refl }
+  required_stepped r d v q = record { refusal_is = refl; first_is = q ∙ ap bit (d.is set n o words log logtags starts maps); second_is = refl; output_is = refl; session_is = refl }
+
+pub bit_is : (r : Bool) (v : ℕ) → v ≡ bool_byte r → v ≡ bit r
+unfolding bit
+bit_is true v q = q
+bit_is false v q = q
 
 -- ---- a step by the number of its operation
 pub number_is : {o p : Operation} {n : ℕ} → number_of o ≡ n → o ≡ p → n ≡ number_of p

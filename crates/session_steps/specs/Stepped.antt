@@ -7,12 +7,17 @@ use Rattle.base_refusals.specs.declared.Refusal.{Refusal}
 use Rattle.model.specs.Session.{Session}
 use Rattle.session_operations.specs.declared.Session.{Session as Session'}
 use Rattle.session_operations.specs.Sessions.{Valid, SameMemory, meant}
-use Rattle.session_steps.specs.declared.Answered.{Answered}
 use Rattle.model.specs.Steps.{Said, operations, unknown, perform}
 
 -- what step o of the numbers a, b, c answers
 abbrev pub saying : ℕ → ℕ → ℕ → ℕ → List ℕ → List ℕ → Session → Said
 saying o = perform (get_or operations o unknown)
+
+-- what a step answers, the three words that C reads: the refusal's number, 0 for none, and two values
+pub record Answered : Type 0 where
+  pub refusal : ℕ
+  pub first : ℕ
+  pub second : ℕ
 
 -- its three words, the output after it, and the session that the arrays then hold
 pub record PerformEnsures (x : Said) (refusal first second : ℕ) (output₀ output : List ℕ) (behind : Session) : Type 0 where

@@ -9,8 +9,10 @@ ghost use Rattle.session_operations.specs.Answers.{value_in};
 ghost use Rattle.session_operations.specs.Sessions.{Valid, SameMemory, meant};
 ghost use Rattle.session_steps.specs.Stepped.{saying, shown, Performs, Quiet, Wrote};
 
+use base_handles::{
+    ConstantHandle, ExpressionHandle, GlobalHandle, OverrideHandle, RecordHandle, TypeHandle,
+};
 use base_refusals::Refusal;
-use base_views::{CONSTANTS, EXPRESSIONS, GLOBALS, OVERRIDES, TYPES};
 use session_functions::{finish_with_entries, import_function, map_function_handle};
 use session_operations::{
     Session, finish_plain, has_required_special_types, import, map_span, rename_type,
@@ -63,14 +65,6 @@ impl TryFrom<u32> for Operation {
             _ => Err(Refusal::NumberGiven),
         }
     }
-}
-
-// What a step answers, the three words that C reads: the refusal's number, 0 for none, and two values.
-#[derive(Clone, Copy)]
-pub struct Answered {
-    pub refusal: u32,
-    pub first: u32,
-    pub second: u32,
 }
 
 // A step: an operation and its numbers.
@@ -135,7 +129,7 @@ fn imported(said: Result<u32, Refusal>) -> Result<(u32, u32), Refusal>
 }
 
 // One step of a session: the two values that its operation answers, 0 where it has none.
-fn operate(
+pub fn perform(
     session: &mut Session,
     sources: &[u8],
     output: &mut [u8],
@@ -156,38 +150,34 @@ fn operate(
         }
         Operation::HasRequiredSpecialTypes => {
             let held = has_required_special_types(session.special, session.sizes);
-            Ok((held, 0))
+            Ok((u32::from(held), 0))
         }
         Operation::Finish => plain_step(session, output, step),
         Operation::FinishWithEntryPoints => entries_step(session, output, step),
-        Operation::ImportType => imported(import(session, TYPES, step.a)),
+        Operation::ImportType => {
+            let handle = RecordHandle::Type(TypeHandle(step.a));
+            imported(import(session, handle))
+        }
         Operation::RenameType => imported(rename_type(session, step.a, step.b)),
-        Operation::ImportConst => imported(import(session, CONSTANTS, step.a)),
-        Operation::ImportPipelineOverride => imported(import(session, OVERRIDES, step.a)),
-        Operation::ImportGlobal => imported(import(session, GLOBALS, step.a)),
-        Operation::ImportGlobalExpression => imported(import(session, EXPRESSIONS, step.a)),
+        Operation::ImportConst => {
+            let handle = RecordHandle::Constant(ConstantHandle(step.a));
+            imported(import(session, handle))
+        }
+        Operation::ImportPipelineOverride => {
+            let handle = RecordHandle::Override(OverrideHandle(step.a));
+            imported(import(session, handle))
+        }
+        Operation::ImportGlobal => {
+            let handle = RecordHandle::Global(GlobalHandle(step.a));
+            imported(import(session, handle))
+        }
+        Operation::ImportGlobalExpression => {
+            let handle = RecordHandle::Expression(ExpressionHandle(step.a));
+            imported(import(session, handle))
+        }
         Operation::ImportFunction => imported(import_function(session, step.a)),
         Operation::ImportFunctionIfNew | Operation::MapFunctionHandle => {
             imported(map_function_handle(session, step.a))
         }
-    }
-}
-
-// The same, what it answers as three words.
-pub fn perform(session: &mut Session, sources: &[u8], output: &mut [u8], step: Step) -> Answered
-    requires { Valid session.old }
-    ensures { Performs (saying step.operation step.a step.b step.c sources.now output.old (meant session.old)) session.old result output.old output.new session.new }
-{
-    match operate(session, sources, output, step) {
-        Ok((first, second)) => Answered {
-            refusal: 0,
-            first,
-            second,
-        },
-        Err(refusal) => Answered {
-            refusal: refusal.number(),
-            first: 0,
-            second: 0,
-        },
     }
 }

@@ -101,6 +101,12 @@ unfolding last_of
 last_hit [] f j v = rw (last_of, eq-eqb (name_word f) (name_word f) refl) (omega arith)
 last_hit (g ∷ fs) f j v = either (eqb (name_word g) (name_word f)) (λ e. rw (last_of, e) (last_hit fs f (suc j) (suc j))) λ e. rw (last_of, e) (last_hit fs f (suc j) v)
 
+-- it is found in the last place
+pub last_place : (fs : List Function) (f : Function) (j v : ℕ) → last_of (fs ++ (f ∷ [])) j v (name_word f) ≡ j + suc (length fs)
+unfolding last_of
+last_place [] f j v = rw (last_of, eq-eqb (name_word f) (name_word f) refl) (omega arith)
+last_place (g ∷ fs) f j v = either (eqb (name_word g) (name_word f)) (λ e. rw (last_of, e) (last_place fs f (suc j) (suc j) ∙ omega arith)) λ e. rw (last_of, e) (last_place fs f (suc j) v ∙ omega arith)
+
 -- ---- what holds of a state s that came from a
 abbrev pub name_table : Derived → List Cells
 name_table s = at names s.recs

@@ -24,7 +24,7 @@ use Rattle.model.specs.Tables.{Tab, names, at, Tables, tables, rec_at, count, ma
 use Rattle.model.specs.References.{table, node, ref_of, refs, target, targets, alike, index_of}
 use Rattle.model.specs.References as References
 use Rattle.model.specs.Walk.{walk}
-use Rattle.model.specs.Imports.{Derived, import_t}
+use Rattle.model.specs.Imports.{Derived, import_t, unless_mapped}
 use Rattle.model.specs.Bodies.{known, Builder, mapped_to, declarations, declared, derived, final, localized, appended, append, follow_f}
 use Rattle.model.specs.Finish.{gathered}
 use Rattle.theory_bodies.specs.Names.{name_low, derived-named, last_miss}
@@ -353,6 +353,11 @@ module _ (m : Module) (well : WellFormed m) (ok : Passes m) (o : ℕ) where
     unfolding append appended
     last = (sym (simp length-append (omega arith)), get_or-append_seam E.functions G' [] nothing)
 
+    -- and its name finds it
+    pub found_last : known m R n ≡ length R.functions
+    unfolding known append appended
+    found_last = rw (← name.0) (let p = Known.last_place E.functions G' 0 0 in let q : suc (length E.functions) ≡ length R.functions = last.0 in omega (arith, p, q))
+
     -- whether its name was known or not
     pub append-next : Next m s R
     unfolding append appended Keeps
@@ -420,3 +425,11 @@ module _ (m : Module) (well : WellFormed m) (ok : Passes m) (o : ℕ) where
 
       go : (n : ℕ) (s : Derived) → Low (suc d) m a n → From m a s → Lawful.Follows o m (follow_f k o m) (λ j. Low d m s j) (From m s) → Step a s (follow_f (suc k) o m n s) n
       go n s q f ih = once_is (λ r. Step a s r n) (known m s n) _ s (λ z. new n s f ih z (side n s f z q)) (λ h. record { on = from_refl f; maps = h })
+
+  -- a function of unknown name, followed, is the last one, and its name finds it
+  pub followed_last : (d k : ℕ) → d ≤ k → (n : ℕ) (s : Derived) → Low d m s n → From m s s → known m s n ≡ 0 → known m (follow_f k o m n s) n ≡ length (follow_f k o m n s).functions
+  unfolding follow_f Low unless_mapped
+  followed_last zero k l n s h f z = absurd (omega arith)
+  followed_last (suc d) zero l n s h f z = absurd (not-suc-le-zero l)
+  followed_last (suc d) (suc k) l n s (inl h) f z = absurd (omega arith)
+  followed_last (suc d) (suc k) l n s (inr w) f z = rw z (found_last (follow_f k o m) (λ j. Low d m s j) s (follows d k (omega arith) s) n w.0 w.1 f)

@@ -11,7 +11,7 @@ use Rattle.model.specs.Redirect.{function as function_at}
 use Rattle.model.specs.Tables.{Tab, names, types, at, six, Tables, tables, count}
 use Rattle.model.specs.Imports.{Derived, import_t, renamed, unmapped, emptied, fresh}
 use Rattle.model.specs.Special.{force, with_special, put_ray, put_pair, sourced}
-use Rattle.model.specs.Bodies.{append, follow}
+use Rattle.model.specs.Bodies.{known, append, follow}
 use Rattle.model.specs.Session.{unknown, meets_ring}
 use Rattle.theory_order.specs.Lists.{length-numbers}
 use Rattle.theory_order.specs.Numbered.{numbered-known}
@@ -28,7 +28,7 @@ use Rattle.theory_finish.specs.Sessions.{Setting, sourced-kept}
 use Rattle.theory_finish.specs.Output.{follows_setting, emptied_follows}
 use Rattle.theory_finish.specs.Specials.{typed_setting, no_rays}
 use Rattle.theory_sessions.specs.Height.{Low, unknowns, ringless}
-use Rattle.theory_sessions.specs.Following.{Piece, pieces_grown, Holds, Next, holds_from, from_next, From, from_import, follows, append-next}
+use Rattle.theory_sessions.specs.Following.{followed_last, Piece, pieces_grown, Holds, Next, holds_from, from_next, From, from_import, follows, append-next}
 use Rattle.theory_sessions.specs.Renaming.{from_rename}
 
 -- tables and functions are no matter of maps and special types
@@ -133,3 +133,8 @@ module _ (m : Module) (well : WellFormed m) (ok : Passes m) (o : ℕ) where
   -- map_function_handle
   pub handle_from : (n : ℕ) (s : Derived) → n < length m.functions → meets_ring (n ∷ []) m s ≡ false → Holds T s → From m s (follow o m n s)
   handle_from n s l e h = (follow_follows s).good n s (ringless m well ok.numbers s (n ∷ []) e n here l) (holds_from h)
+
+  -- what has just been imported is the last function
+  pub handle_last : (n : ℕ) (s : Derived) → n < length m.functions → meets_ring (n ∷ []) m s ≡ false → Holds T s → known m s n ≡ 0 → known m (follow o m n s) n ≡ length (follow o m n s).functions
+  unfolding follow
+  handle_last n s l e h = followed_last m well ok o (unknowns m s) (length m.functions) (few s) n s (ringless m well ok.numbers s (n ∷ []) e n here l) (holds_from h)

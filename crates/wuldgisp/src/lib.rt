@@ -3,10 +3,16 @@
 #![tactic(auto)]
 
 ghost use Rattle.std.specs.Prelude.{◌≡◌, length};
-ghost use Rattle.model.specs.Image.{IntakeEnsures, OrderEnsures, RedirectEnsures, LinkEnsures, SessionEnsures, ScratchLengths};
+ghost use Rattle.model.specs.Image.{IntakeEnsures, OrderEnsures, redirect_answer, RedirectEnsures, LinkEnsures, SessionEnsures, ScratchLengths};
+ghost use Rattle.redirect_bytes.specs.Answers.{shown, Small};
+ghost use Rattle.session.specs.Sessions.{as_number};
 
+use base_handles::FunctionHandle;
+use base_refusals::{Refusal, answer, pack};
 use base_words::{Tags, Words};
-use derive_state::{Buckets, Log, LogTags, Maps, StackRows, Starts};
+use derive_state::{Buckets, DerivedMut, Log, LogTags, Maps, StackRows, Starts};
+use redirect_words::Request;
+use session::RefusedStep;
 
 // Intake: 0 for an image that is accepted, else the number of the test that refuses it, 1 to 6. Meaning: `intake_accepts`.
 pub fn wuldgisp_intake(image: &[u8]) -> u32
@@ -21,7 +27,15 @@ pub fn wuldgisp_intake(image: &[u8]) -> u32
 pub fn wuldgisp_order(image: &[u8], order: &mut [u32]) -> u64
     ensures { OrderEnsures result order.old order.new image.now }
 {
-    order_bytes::order(image, order)
+    answer(order_bytes::order(image, order))
+}
+
+// What redirecting answers, as one number: both functions' numbers are in the high half, the replacement's times 65,536.
+fn functions_answer(r: Result<(FunctionHandle, FunctionHandle), Refusal>) -> u64
+    requires { Small (shown r) }
+    ensures { result ≡ redirect_answer (shown r) }
+{
+    answer(r.map(|(a, b)| a.0 + 65536 * b.0))
 }
 
 // Redirects calls in the image itself. The low half of the answer is the number of the refusal, or 0; the high half is the original's number plus 65,536
@@ -30,7 +44,14 @@ pub fn wuldgisp_order(image: &[u8], order: &mut [u32]) -> u64
 pub fn wuldgisp_redirect(image: &mut [u8], original: u32, replacement: u32, omit: &[u32]) -> u64
     ensures { RedirectEnsures result image.old image.new original replacement omit.now }
 {
-    redirect_bytes::redirect(image, original, replacement, omit)
+    functions_answer(redirect_bytes::redirect_function(
+        image,
+        Request {
+            original,
+            replacement,
+            omit,
+        },
+    ))
 }
 
 // Links the image into the output. The low half of the answer is the number of the refusal, or 0; the high half is the count of bytes written, or, with
@@ -40,7 +61,7 @@ pub fn wuldgisp_redirect(image: &mut [u8], original: u32, replacement: u32, omit
 pub fn wuldgisp_link(image: &[u8], output: &mut [u8]) -> u64
     ensures { LinkEnsures result output.old output.new image.now }
 {
-    link::link(image, output)
+    answer(link::link(image, output))
 }
 
 // wuldgisp_link in memory that the caller provides: eight arrays, 476 KiB in all. They may hold anything before and hold anything after, so they need no clearing,
@@ -62,9 +83,25 @@ pub fn wuldgisp_link_in(
     requires scratch_lengths { ScratchLengths log.old logtags.old starts.old stacks.old }
     ensures { LinkEnsures result output.old output.new image.now }
 {
-    link::link_in(
-        image, output, words, tags, log, logtags, starts, maps, buckets, stacks,
-    )
+    let mut derived = DerivedMut {
+        log,
+        logtags,
+        starts,
+        maps,
+        buckets,
+    };
+    answer(link::link_in(image, output, words, tags, &mut derived, stacks))
+}
+
+// The first refused step of a session as C reads it: its refusal in the low half, its number in the high half; 0 if none was refused.
+#[tactic(auto, unfolding(session::specs::Sessions::numbered))]
+fn first_refused(said: Result<(), RefusedStep>) -> u64
+    ensures { result ≡ as_number said }
+{
+    match said {
+        Ok(()) => 0,
+        Err(refused) => pack(refused.refusal.number(), (refused.step % 4294967296) as u32),
+    }
 }
 
 // Runs a session's steps, four words each, and answers three words to each as far as there is room. 0 if every step was accepted; else the low half of the
@@ -79,7 +116,7 @@ pub fn wuldgisp_session(
 ) -> u64
     ensures { SessionEnsures sources.now steps.now answers.old output.old result answers.new output.new }
 {
-    session::session(sources, steps, answers, output)
+    first_refused(session::session(sources, steps, answers, output))
 }
 
 // wuldgisp_session in memory that the caller provides, as for wuldgisp_link_in. The promise is that of wuldgisp_session, word for word; required are the lengths
@@ -103,7 +140,7 @@ pub fn wuldgisp_session_in(
     requires scratch_lengths { ScratchLengths log.old logtags.old starts.old stacks.old }
     ensures { SessionEnsures sources.now steps.now answers.old output.old result answers.new output.new }
 {
-    session::session_in(
+    first_refused(session::session_in(
         sources, steps, answers, output, words, tags, log, logtags, starts, maps, buckets, stacks,
-    )
+    ))
 }

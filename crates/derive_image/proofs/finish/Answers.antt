@@ -10,24 +10,24 @@ pub returns-then-counts-gt-MOST_FUNCTIONS : goal.returns-then-counts-gt-MOST_FUN
 returns-then-counts-gt-MOST_FUNCTIONS c =
     let a = c.args in
     elim c.then-counts-gt-MOST_FUNCTIONS.branch [
-      | then-counts-gt-MOST_FUNCTIONS-via-then-counts-gt-MOST_FUNCTIONS w ↦ many_functions a.derived.now.log.now a.derived.now.logtags.now a.derived.now.starts.now a.counts c.requires.valid_tables a.pairs (take (3 + 2 * a.pairs) a.special.now) a.output.now w.if-counts-gt-MOST_FUNCTIONS.true
-      | then-counts-gt-MOST_FUNCTIONS-via-else-counts-gt-MOST_FUNCTIONS+then-counts-gt-MOST_ENTRIES w ↦ many_entries a.derived.now.log.now a.derived.now.logtags.now a.derived.now.starts.now a.counts c.requires.valid_tables a.pairs (take (3 + 2 * a.pairs) a.special.now) a.output.now w.if-counts-gt-MOST_ENTRIES.true
+      | then-counts-gt-MOST_FUNCTIONS-via-then-counts-gt-MOST_FUNCTIONS w ↦ many_functions a.derived.now.log.now a.derived.now.logtags.now a.derived.now.starts.now a.derived.now.sizes.counts c.requires.valid_tables a.derived.now.sizes.pairs (take (3 + 2 * a.derived.now.sizes.pairs) a.special.now) a.output.now w.if-counts-gt-MOST_FUNCTIONS.true
+      | then-counts-gt-MOST_FUNCTIONS-via-else-counts-gt-MOST_FUNCTIONS+then-counts-gt-MOST_ENTRIES w ↦ many_entries a.derived.now.log.now a.derived.now.logtags.now a.derived.now.starts.now a.derived.now.sizes.counts c.requires.valid_tables a.derived.now.sizes.pairs (take (3 + 2 * a.derived.now.sizes.pairs) a.special.now) a.output.now w.if-counts-gt-MOST_ENTRIES.true
     ]
 
 pub returns-in_err-k : goal.returns-in_err-k
 returns-in_err-k c =
     let p = err_from_is_err_and c.from_residual.result c.from_residual.ensures.1 in
     let a = c.args in
-    rw (p.1, p.2, refused_full a.derived.now.log.now a.derived.now.logtags.now a.derived.now.starts.now a.counts c.requires.valid_tables a.pairs (take (3 + 2 * a.pairs) a.special.now) a.output.now _ _ c.in_err-k.ensures.value) (too_long a.derived.now.log.now a.derived.now.logtags.now a.derived.now.starts.now a.counts c.requires.valid_tables a.pairs (take (3 + 2 * a.pairs) a.special.now) a.output.now _ _ _ c.finish_words.ensures c.in_err-k.ensures.ok_part)
+    rw (p.1, p.2, refused_full a.derived.now.log.now a.derived.now.logtags.now a.derived.now.starts.now a.derived.now.sizes.counts c.requires.valid_tables a.derived.now.sizes.pairs (take (3 + 2 * a.derived.now.sizes.pairs) a.special.now) a.output.now _ _ c.in_err-k.ensures.value) (too_long a.derived.now.log.now a.derived.now.logtags.now a.derived.now.starts.now a.derived.now.sizes.counts c.requires.valid_tables a.derived.now.sizes.pairs (take (3 + 2 * a.derived.now.sizes.pairs) a.special.now) a.output.now _ _ _ c.finish_words.ensures c.in_err-k.ensures.ok_part)
 
 pub overflow_mul-k : goal.overflow_mul-k
-overflow_mul-k c = let a = c.args in let h = small a.derived.now.log.now a.derived.now.logtags.now a.derived.now.starts.now a.counts c.requires.valid_tables a.pairs (take (3 + 2 * a.pairs) a.special.now) a.output.now _ _ _ c.finish_words.ensures c.if-counts-gt-MOST_FUNCTIONS.false c.if-counts-gt-MOST_ENTRIES.false _ c.in_ok-k.ensures.ok_part in omega arith
+overflow_mul-k c = let a = c.args in let h = small a.derived.now.log.now a.derived.now.logtags.now a.derived.now.starts.now a.derived.now.sizes.counts c.requires.valid_tables a.derived.now.sizes.pairs (take (3 + 2 * a.derived.now.sizes.pairs) a.special.now) a.output.now _ _ _ c.finish_words.ensures c.if-counts-gt-MOST_FUNCTIONS.false c.if-counts-gt-MOST_ENTRIES.false _ c.in_ok-k.ensures.ok_part in omega arith
 
 pub returns-then-output-k : goal.returns-then-output-k
-returns-then-output-k c = let a = c.args in no_room a.derived.now.log.now a.derived.now.logtags.now a.derived.now.starts.now a.counts c.requires.valid_tables a.pairs (take (3 + 2 * a.pairs) a.special.now) a.output.now _ _ _ c.finish_words.ensures c.if-counts-gt-MOST_FUNCTIONS.false c.if-counts-gt-MOST_ENTRIES.false _ c.in_ok-k.ensures.ok_part c.if-output-k.true
+returns-then-output-k c = let a = c.args in no_room a.derived.now.log.now a.derived.now.logtags.now a.derived.now.starts.now a.derived.now.sizes.counts c.requires.valid_tables a.derived.now.sizes.pairs (take (3 + 2 * a.derived.now.sizes.pairs) a.special.now) a.output.now _ _ _ c.finish_words.ensures c.if-counts-gt-MOST_FUNCTIONS.false c.if-counts-gt-MOST_ENTRIES.false _ c.in_ok-k.ensures.ok_part c.if-output-k.true
 
 pub store-requires : goal.store-requires
-store-requires c = let a = c.args in record { n_in_bounds = store-room a.derived.now.log.now a.derived.now.logtags.now a.derived.now.starts.now a.counts c.requires.valid_tables a.pairs (take (3 + 2 * a.pairs) a.special.now) a.output.now _ _ _ c.finish_words.ensures c.if-counts-gt-MOST_FUNCTIONS.false c.if-counts-gt-MOST_ENTRIES.false _ c.in_ok-k.ensures.ok_part c.requires.pairs_bound.2 (out_long a.derived.now.log.now a.derived.now.logtags.now a.derived.now.starts.now a.counts c.requires.valid_tables a.pairs (take (3 + 2 * a.pairs) a.special.now) a.output.now _ _ _ c.finish_words.ensures c.if-counts-gt-MOST_FUNCTIONS.false c.if-counts-gt-MOST_ENTRIES.false _ c.in_ok-k.ensures.ok_part c.requires.pairs_bound.2); n_in_bounds_2 = c.if-output-k.false }
+store-requires c = let a = c.args in record { n_in_bounds = store-room a.derived.now.log.now a.derived.now.logtags.now a.derived.now.starts.now a.derived.now.sizes.counts c.requires.valid_tables a.derived.now.sizes.pairs (take (3 + 2 * a.derived.now.sizes.pairs) a.special.now) a.output.now _ _ _ c.finish_words.ensures c.if-counts-gt-MOST_FUNCTIONS.false c.if-counts-gt-MOST_ENTRIES.false _ c.in_ok-k.ensures.ok_part c.requires.pairs_bound.2 (out_long a.derived.now.log.now a.derived.now.logtags.now a.derived.now.starts.now a.derived.now.sizes.counts c.requires.valid_tables a.derived.now.sizes.pairs (take (3 + 2 * a.derived.now.sizes.pairs) a.special.now) a.output.now _ _ _ c.finish_words.ensures c.if-counts-gt-MOST_FUNCTIONS.false c.if-counts-gt-MOST_ENTRIES.false _ c.in_ok-k.ensures.ok_part c.requires.pairs_bound.2); n_in_bounds_2 = c.if-output-k.false }
 
 pub returns : goal.returns
-returns c = let a = c.args in stored a.derived.now.log.now a.derived.now.logtags.now a.derived.now.starts.now a.counts c.requires.valid_tables a.pairs (take (3 + 2 * a.pairs) a.special.now) a.output.now _ _ _ c.finish_words.ensures c.if-counts-gt-MOST_FUNCTIONS.false c.if-counts-gt-MOST_ENTRIES.false _ c.in_ok-k.ensures.ok_part c.requires.pairs_bound.2 c.if-output-k.false _ c.store.ensures
+returns c = let a = c.args in stored a.derived.now.log.now a.derived.now.logtags.now a.derived.now.starts.now a.derived.now.sizes.counts c.requires.valid_tables a.derived.now.sizes.pairs (take (3 + 2 * a.derived.now.sizes.pairs) a.special.now) a.output.now _ _ _ c.finish_words.ensures c.if-counts-gt-MOST_FUNCTIONS.false c.if-counts-gt-MOST_ENTRIES.false _ c.in_ok-k.ensures.ok_part c.requires.pairs_bound.2 c.if-output-k.false _ c.store.ensures

@@ -8,7 +8,7 @@ use Rattle.std.proofs.lemmas.Iterator.{YieldsList-from_range}
 use Rattle.std.proofs.lemmas.Iterator.Search.{find_from_yields_List}
 use Rattle.model.specs.Between.{between}
 use Rattle.derive_state.specs.Held.{row}
-use Rattle.derive_lookup.proofs.Seeking.{is_alike, first_is}
+use Rattle.derive_state.proofs.Seeking.{is_alike, first_is, number_is}
 use Rattle.derive_lookup.proofs.find_name.Goals as goal
 
 pub returns : goal.returns
@@ -19,5 +19,5 @@ returns c =
     let names = c.requires.names in
     let within : n ≤ length starts = rw names.starts_long names.few in
     let cells = between a.image.tags.now a.image.words.now a.at a.end in
-    let first = first_is a.derived.now.log.now a.derived.now.logtags.now starts cells n within c.find.result (find_from_yields_List (is_alike a.derived.now.log.now a.derived.now.logtags.now starts cells n within) _ _ c.find.result c.find.ensures.ran (YieldsList-from_range 0 n n refl (omega arith)) (λ x b q k. search (rules, tests))) in
+    let first = number_is a.derived.now.log.now a.derived.now.logtags.now starts cells n within c.find.result (first_is a.derived.now.log.now a.derived.now.logtags.now starts cells n within c.find.result (find_from_yields_List (is_alike a.derived.now.log.now a.derived.now.logtags.now starts cells n within) _ _ c.find.result c.find.ensures.ran (YieldsList-from_range 0 n n refl (omega arith)) (λ x b q k. search (rules, tests)))) in
     rw c.unwrap_or.ensures (first.0, omega (arith, first.1, names.few))

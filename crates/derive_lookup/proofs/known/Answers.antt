@@ -14,17 +14,14 @@ bounds-image-s c = head_in c.args.image.words.now c.args.image.tags.now c.args.i
 pub overflow_sub-k : goal.overflow_sub-k
 overflow_sub-k c = some_name c.args.image.words.now c.args.image.tags.now c.args.image.n c.requires.source c.requires.n_value c.args.f c.requires.f_bound _ c.record_at-s.ensures _ refl
 
-pub record_at-at-requires : goal.record_at-at-requires
-record_at-at-requires c = record { tape = tape c.args.image.words.now c.args.image.tags.now c.args.image.n c.requires.source; k_bound = omega arith; j_bound = name_in_lem c.args.image.words.now c.args.image.tags.now c.args.image.n c.requires.source c.requires.n_value c.args.f c.requires.f_bound _ c.record_at-s.ensures _ refl }
-
-pub record_end-end-requires : goal.record_end-end-requires
-record_end-end-requires c = record { tape = tape c.args.image.words.now c.args.image.tags.now c.args.image.n c.requires.source; k_bound = omega arith; j_bound = name_in_lem c.args.image.words.now c.args.image.tags.now c.args.image.n c.requires.source c.requires.n_value c.args.f c.requires.f_bound _ c.record_at-s.ensures _ refl }
+pub record-at-requires : goal.record-at-requires
+record-at-requires c = record { tape = tape c.args.image.words.now c.args.image.tags.now c.args.image.n c.requires.source; k_bound = omega arith; j_bound = name_in_lem c.args.image.words.now c.args.image.tags.now c.args.image.n c.requires.source c.requires.n_value c.args.f c.requires.f_bound _ c.record_at-s.ensures _ refl }
 
 pub bounds-derived-k : goal.bounds-derived-k
 bounds-derived-k c = let a = c.args in let h = name_few a.image.words.now a.image.tags.now a.image.n c.requires.source c.requires.n_value a.f c.requires.f_bound _ c.record_at-s.ensures _ refl in omega arith
 
 pub find_name_from-d-requires : goal.find_name_from-d-requires
-find_name_from-d-requires c = let a = c.args in record { readable = name_reads a.image.words.now a.image.tags.now a.image.n c.requires.source c.requires.n_value a.f c.requires.f_bound _ c.record_at-s.ensures _ refl _ _ c.record_at-at.ensures c.record_end-end.ensures; names = c.requires.bearing.names }
+find_name_from-d-requires c = let a = c.args in record { readable = name_reads a.image.words.now a.image.tags.now a.image.n c.requires.source c.requires.n_value a.f c.requires.f_bound _ c.record_at-s.ensures _ refl _ _ c.record-at.ensures.0 c.record-at.ensures.1; names = c.requires.bearing.names }
 
 pub returns : goal.returns
-returns c = let a = c.args in knows a.image.words.now a.image.tags.now a.image.n c.requires.source c.requires.n_value a.f c.requires.f_bound _ c.record_at-s.ensures _ refl _ _ c.record_at-at.ensures c.record_end-end.ensures a.derived.now.log.now a.derived.now.logtags.now a.derived.now.starts.now (going a.derived.now.sizes) _ _ c.find_name_from-d.ensures.0 c.last.ensures
+returns c = let a = c.args in knows a.image.words.now a.image.tags.now a.image.n c.requires.source c.requires.n_value a.f c.requires.f_bound _ c.record_at-s.ensures _ refl _ _ c.record-at.ensures.0 c.record-at.ensures.1 a.derived.now.log.now a.derived.now.logtags.now a.derived.now.starts.now (going a.derived.now.sizes) _ _ c.find_name_from-d.ensures.0 c.last.ensures

@@ -1,24 +1,25 @@
--- `derive_rings::calls_one` meets its contract. The invariant: whether one is called from here on is whether one is called at all.
-use mathlib.Core.Path.{sym, refl, ◌∙◌}
-use Rattle.derive_rings.proofs.Asking.{is_of, holds_is, begin, finish, may, hit, miss, pass}
-use Rattle.derive_rings.proofs.calls_one.Goals.{else-image-k-eq-CALLEE-via-then-image-k-eq-CALLEE+else-has, else-image-k-eq-CALLEE-via-else-image-k-eq-CALLEE}
+-- `derive_rings::calls_one` meets its contract: a word that is tested is one of the functions that are called.
+use mathlib.Core.Path.{refl, ◌∙◌}
+use native.Mathlib.Omega.{arith}
+use borrow.Author.Tests.{tests}
+use Rattle.std.proofs.Common.{rules, ◌<◌, ◌-◌}
+use Rattle.std.proofs.lemmas.Iterator.{YieldsList-from_range, serves_from_Range}
+use Rattle.std.proofs.lemmas.Iterator.Search.{any_from_yields_List}
+use Rattle.order_ranks.specs.Marks.{holds}
+use Rattle.derive_rings.proofs.Asking.{is_of, holds_is, any_same, calls_p, low, asks}
 use Rattle.derive_rings.proofs.calls_one.Goals as goal
 
-pub loop-k-init : goal.loop-k-init
-loop-k-init c = begin (is_of c.args.set.now.0) c.requires
-
-pub has-requires : goal.has-requires
-has-requires c = may (is_of c.args.set.now.0) c.requires c.loop-k.invariant c.loop-k-test.true c.if-image-k-eq-CALLEE.true _ refl
-
-pub returns-then-has : goal.returns-then-has
-returns-then-has c = hit (is_of c.args.set.now.0) c.requires c.loop-k.invariant c.loop-k-test.true c.if-image-k-eq-CALLEE.true _ refl (sym (holds_is c.args.set.now.0 _ (may (is_of c.args.set.now.0) c.requires c.loop-k.invariant c.loop-k-test.true c.if-image-k-eq-CALLEE.true _ refl)) ∙ sym c.has.ensures ∙ c.if-has.true)
-
-pub loop-k-preserved : goal.loop-k-preserved
-loop-k-preserved c =
-    elim c.else-image-k-eq-CALLEE.branch [
-      | else-image-k-eq-CALLEE-via-then-image-k-eq-CALLEE+else-has w ↦ miss (is_of c.args.set.now.0) c.requires c.loop-k.invariant c.loop-k-test.true w.if-image-k-eq-CALLEE.true _ refl (sym (holds_is c.args.set.now.0 _ (may (is_of c.args.set.now.0) c.requires c.loop-k.invariant c.loop-k-test.true w.if-image-k-eq-CALLEE.true _ refl)) ∙ sym w.has.ensures ∙ w.if-has.false)
-      | else-image-k-eq-CALLEE-via-else-image-k-eq-CALLEE w ↦ pass (is_of c.args.set.now.0) c.requires c.loop-k.invariant c.loop-k-test.true w.if-image-k-eq-CALLEE.false
-    ]
+pub any-requires-clause-callable : goal.any-requires-clause-callable
+any-requires-clause-callable c =
+    serves_from_Range (λ x q k. search (rules, tests)) (λ x lo hi.
+    let r = c.requires in
+    let inside : x < 16384 = omega (arith, r.within) in
+    let called = low c.requires x lo hi in
+    search (rules, tests))
 
 pub returns : goal.returns
-returns c = finish (is_of c.args.set.now.0) c.requires c.loop-k.invariant c.loop-k-test.false
+returns c =
+    let a = c.args in
+    let p = holds a.set.now.0 in
+    any_from_yields_List (calls_p a.image.words.now a.image.tags.now p) _ _ c.any.result c.any.ensures.ran (YieldsList-from_range a.at a.end (a.end - a.at) refl (omega arith)) (λ x b q k. search (rules, tests))
+    ∙ asks c.requires p ∙ any_same p (is_of a.set.now.0) (holds_is a.set.now.0) c.requires.known

@@ -1,10 +1,7 @@
-use mathlib.Core.Bool.{not}
-use mathlib.Core.Path.{ap}
-use Rattle.derive_lookup.proofs.Counted.{counted}
 use mathlib.Core.Path.{sym, ◌∙◌}
 use native.Mathlib.Omega.{arith}
-use Rattle.derive_rings.proofs.Wholes.{is_known, known-free, leads_not, few, rings-one}
-use Rattle.derive_rings.proofs.follow_rings.Goals.{then-is_none, else-is_none}
+use Rattle.derive_rings.proofs.Wholes.{known-free, leads_not, few, rings-one}
+use Rattle.derive_rings.proofs.follow_rings.Goals.{then-is_unknown, else-is_unknown}
 use Rattle.derive_state.specs.Sizes.{going}
 use Rattle.derive_rings.proofs.follow_rings.Goals as goal
 
@@ -18,7 +15,7 @@ pub returns-else-calls_unknown_name : goal.returns-else-calls_unknown_name
 returns-else-calls_unknown_name c =
     let a = c.args in
     rw c.if-calls_unknown_name.false
-    (elim c.if-is_none.branch [
-      | then-is_none w ↦ leads_not a.image.words.now a.image.n a.derived.now.log.now a.derived.now.logtags.now a.derived.now.starts.now (going a.derived.now.sizes) a.image.tags.now c.requires.source a.f c.requires.f_bound _ w.calls_unknown_name.ensures (sym w.value-is ∙ c.if-calls_unknown_name.false)
-      | else-is_none w ↦ known-free a.image.words.now a.image.n a.derived.now.log.now a.derived.now.logtags.now a.derived.now.starts.now (going a.derived.now.sizes) a.image.tags.now c.requires.source a.f c.requires.f_bound (is_known a.image.words.now a.image.n a.derived.now.log.now a.derived.now.logtags.now a.derived.now.starts.now (going a.derived.now.sizes) _ _ c.known.ensures (counted _ (c.is_none.ensures ∙ ap not w.if-is_none.false)))
+    (elim c.if-is_unknown.branch [
+      | then-is_unknown w ↦ leads_not a.image.words.now a.image.n a.derived.now.log.now a.derived.now.logtags.now a.derived.now.starts.now (going a.derived.now.sizes) a.image.tags.now c.requires.source a.f c.requires.f_bound _ w.calls_unknown_name.ensures (sym w.value-is ∙ c.if-calls_unknown_name.false)
+      | else-is_unknown w ↦ known-free a.image.words.now a.image.n a.derived.now.log.now a.derived.now.logtags.now a.derived.now.starts.now (going a.derived.now.sizes) a.image.tags.now c.requires.source a.f c.requires.f_bound (sym c.is_unknown.ensures ∙ w.if-is_unknown.false)
     ])

@@ -1,10 +1,11 @@
-use Rattle.derive_lookup.proofs.Counted.{counted, not_counted}
+use borrow.Author.Tests.{not-true, not-false}
+use mathlib.Core.Bool.{not}
 -- `derive_rings::unknown` meets its contract. The invariant: of the marks below i those are left whose names are unknown.
-use mathlib.Core.Path.{sym, ◌∙◌}
+use mathlib.Core.Path.{sym, ap, ◌∙◌}
 use native.Mathlib.Omega.{arith}
 use Rattle.derive_rings.proofs.Sieving.{begin, there, drops, stays, passes}
-use Rattle.derive_rings.proofs.Wholes.{few_at, below_at, is_known, is_unknown_lem, unknowns}
-use Rattle.derive_rings.proofs.unknown.Goals.{then-has+then-is_known, then-has+else-is_known, else-has}
+use Rattle.derive_rings.proofs.Wholes.{few_at, below_at, unknowns}
+use Rattle.derive_rings.proofs.unknown.Goals.{then-has+then-not-is_unknown, else-has, else-has-via-then-has+else-not-is_unknown, else-has-via-else-has}
 use Rattle.derive_state.specs.Sizes.{going}
 use Rattle.derive_rings.proofs.unknown.Goals as goal
 
@@ -14,8 +15,8 @@ loop-f-init c = begin _ _ _ (omega arith)
 pub has-requires : goal.has-requires
 has-requires c = let h = few_at c.requires.source c.count-functions.ensures.0 in omega (arith, c.loop-f-test.true)
 
-pub known-requires : goal.known-requires
-known-requires c = record { source = c.requires.source; n_value = c.requires.n_value; f_bound = omega (arith, c.loop-f-test.true, c.count-functions.ensures.0); bearing = c.requires.bearing }
+pub is_unknown-requires : goal.is_unknown-requires
+is_unknown-requires c = record { source = c.requires.source; n_value = c.requires.n_value; f_bound = omega (arith, c.loop-f-test.true, c.count-functions.ensures.0); bearing = c.requires.bearing }
 
 pub leave-requires : goal.leave-requires
 leave-requires c = ((let h = few_at c.requires.source c.count-functions.ensures.0 in omega (arith, c.loop-f-test.true)), there _ _ _ (few_at c.requires.source c.count-functions.ensures.0) (below_at _ c.count-functions.ensures.0 c.requires.began_len) _ _ c.loop-f.invariant c.loop-f-test.true (sym c.has.ensures ∙ c.if-has.true))
@@ -23,9 +24,11 @@ leave-requires c = ((let h = few_at c.requires.source c.count-functions.ensures.
 pub loop-f-preserved : goal.loop-f-preserved
 loop-f-preserved c =
     elim c.if-has.branch [
-      | then-has+then-is_known w ↦ rw (w.set-is) (drops _ _ _ (few_at c.requires.source c.count-functions.ensures.0) (below_at _ c.count-functions.ensures.0 c.requires.began_len) _ _ c.loop-f.invariant c.loop-f-test.true (sym c.has.ensures ∙ w.if-has.true) (is_known c.args.image.words.now c.args.image.n c.args.derived.now.log.now c.args.derived.now.logtags.now c.args.derived.now.starts.now (going c.args.derived.now.sizes) _ _ w.known.ensures (counted _ (sym w.is_some-is_known.ensures ∙ w.if-is_known.true))) _ w.leave.ensures)
-      | then-has+else-is_known w ↦ rw (w.set-is) (stays _ _ _ (few_at c.requires.source c.count-functions.ensures.0) (below_at _ c.count-functions.ensures.0 c.requires.began_len) _ _ c.loop-f.invariant c.loop-f-test.true (sym c.has.ensures ∙ w.if-has.true) (is_unknown_lem c.args.image.words.now c.args.image.n c.args.derived.now.log.now c.args.derived.now.logtags.now c.args.derived.now.starts.now (going c.args.derived.now.sizes) _ _ w.known.ensures (not_counted _ (sym w.is_some-is_known.ensures ∙ w.if-is_known.false))))
-      | else-has w ↦ rw (w.set-is) (passes _ _ _ (few_at c.requires.source c.count-functions.ensures.0) (below_at _ c.count-functions.ensures.0 c.requires.began_len) _ _ c.loop-f.invariant c.loop-f-test.true (sym c.has.ensures ∙ w.if-has.false))
+      | then-has+then-not-is_unknown w ↦ rw w.set-is (drops _ _ _ (few_at c.requires.source c.count-functions.ensures.0) (below_at _ c.count-functions.ensures.0 c.requires.began_len) _ _ c.loop-f.invariant c.loop-f-test.true (sym c.has.ensures ∙ w.if-has.true) (sym w.is_unknown.ensures ∙ not-true _ (ap not w.if-not-is_unknown.true)) _ w.leave.ensures)
+      | else-has w ↦ rw w.set-is (elim w.else-has.branch [
+        | else-has-via-then-has+else-not-is_unknown v ↦ stays _ _ _ (few_at c.requires.source c.count-functions.ensures.0) (below_at _ c.count-functions.ensures.0 c.requires.began_len) _ _ c.loop-f.invariant c.loop-f-test.true (sym c.has.ensures ∙ v.if-has.true) (sym v.is_unknown.ensures ∙ not-false _ (ap not v.if-not-is_unknown.false))
+        | else-has-via-else-has v ↦ passes _ _ _ (few_at c.requires.source c.count-functions.ensures.0) (below_at _ c.count-functions.ensures.0 c.requires.began_len) _ _ c.loop-f.invariant c.loop-f-test.true (sym c.has.ensures ∙ v.if-has.false)
+      ])
     ]
 
 pub returns : goal.returns

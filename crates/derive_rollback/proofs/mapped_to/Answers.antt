@@ -1,6 +1,5 @@
-use native.Mathlib.Omega.{arith}
 use Rattle.derive_rollback.proofs.Answer.{answers}
 use Rattle.derive_rollback.proofs.mapped_to.Goals as goal
 
 pub returns : goal.returns
-returns c = answers c.args.maps.now c.args.t c.args.h _ c.requires.0 (omega (arith, c.saturating_sub.ensures))
+returns c = answers c.args.maps.now c.args.t c.args.h _ c.requires.0 (c.number_of.ensures)

@@ -1,15 +1,24 @@
-use Rattle.derive_sections.proofs.Tables.{rows_row, summing_begin, summing_next, summing_done}
-use borrow.Author.Rules.{rules}
+use Rattle.std.proofs.Common.{refl, rules, ℕ, arith, tests}
+use Rattle.std.specs.List.{range_with_len}
+use Rattle.std.proofs.lemmas.Iterator.{YieldsList-from_range, YieldsList-from_map, serves_from_Range}
+use Rattle.std.proofs.lemmas.Iterator.Adapters.{at_most_from_yields_List, fits_from_length}
+use Rattle.std.proofs.lemmas.Iterator.Consumers.{sum_by_from_yields_List}
+use Rattle.derive_state.specs.Held.{table_of}
+use Rattle.derive_sections.specs.Flat.{table_size}
+use Rattle.derive_sections.proofs.Tables.{table_sum}
 use Rattle.derive_sections.proofs.all_sizes.Goals as goal
 
-pub loop-t-init : goal.loop-t-init
-loop-t-init c = search (summing_begin, rules)
+pub sum-requires-clause-can : goal.sum-requires-clause-can
+sum-requires-clause-can c =
+    (tt, serves_from_Range (λ x q k. search (rules, tests)) (λ t l h. search rules))
 
-pub table_size-p-requires : goal.table_size-p-requires
-table_size-p-requires c = search (rows_row, rules)
-
-pub loop-t-preserved : goal.loop-t-preserved
-loop-t-preserved c = let a = c.args in let p = c.requires in let l = c.loop-t in let h = c.loop-t-test.true in summing_next a.derived.now.log.now a.derived.now.logtags.now a.derived.now.starts.now a.counts p l.t l.p l.invariant h _ c.table_size-p.ensures
+pub sum-requires-clause-fits : goal.sum-requires-clause-fits
+sum-requires-clause-fits c = fits_from_length _ _ 8 _ (at_most_from_yields_List (YieldsList-from_range 0 8 8 (cc) refl) (omega arith)) c.map.ensures.closure (omega arith) (λ x r q k. search (rules, tests))
 
 pub returns : goal.returns
-returns c = let a = c.args in let p = c.requires in let l = c.loop-t in summing_done a.derived.now.log.now a.derived.now.logtags.now a.derived.now.starts.now a.counts p l.t l.p l.invariant c.loop-t-test.false
+returns c =
+    let d = c.args.derived.now in
+    let size : ℕ → ℕ = λ t. table_size (table_of d.log.now d.logtags.now d.starts.now d.sizes.counts t) in
+    table_sum d.log.now d.logtags.now d.starts.now d.sizes.counts c.requires _
+    (sum_by_from_yields_List size (range_with_len 0 8) c.map.result _ c.sum.ensures.ran
+    (YieldsList-from_map _ size (YieldsList-from_range 0 8 8 (cc) refl) c.map.ensures.closure (λ x r q k. search (rules, tests))))

@@ -1,12 +1,12 @@
-use Rattle.derive_sections.proofs.Writes.{row_in, offering_begin, offering_next, offering_done}
+use Rattle.derive_sections.proofs.Writes.{start_in, offering_begin, offering_next, offering_done}
 use borrow.Author.Rules.{rules}
 use Rattle.derive_sections.proofs.write_offsets.Goals as goal
 
 pub loop-j-init : goal.loop-j-init
 loop-j-init c = search (offering_begin, rules)
 
-pub bounds-derived-row : goal.bounds-derived-row
-bounds-derived-row c = search (row_in, rules)
+pub bounds-derived-s : goal.bounds-derived-s
+bounds-derived-s c = search (start_in, rules)
 
 pub loop-j-preserved : goal.loop-j-preserved
 loop-j-preserved c = search (offering_next, rules)

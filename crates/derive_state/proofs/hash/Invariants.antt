@@ -1,6 +1,6 @@
-use Rattle.derive_state.specs.Refers.{went_r, target_bytes}
+use Rattle.derive_state.specs.Refers.{went_r}
 use Rattle.derive_state.proofs.Passes.{Hashing}
 use Rattle.derive_state.proofs.hash.Given as goal
 
 abbrev pub invariant-loop-j : goal.invariant-loop-j
-invariant-loop-j l = Hashing l.image.words.now l.image.tags.now target_bytes (went_r l.maps) l.at l.end l.t l.h l.j
+invariant-loop-j l = Hashing l.image.words.now l.image.tags.now (went_r l.maps) l.at l.end l.t l.h l.j

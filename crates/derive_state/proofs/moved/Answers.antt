@@ -1,9 +1,15 @@
-use mathlib.Core.Logic.{⊎_elim}
-use Rattle.derive_state.proofs.Classes.{moved_low, moved_high, moved-kept, moved_on}
+use mathlib.Core.Path.{sym, ◌∙◌}
+use Rattle.derive_state.proofs.Classes.{moved_other, moved_kept, moved_on}
+use Rattle.derive_state.proofs.moved.Goals.{else-is_span-via-then-is_span+else-not-u, else-is_span-via-else-is_span}
 use Rattle.derive_state.proofs.moved.Goals as goal
 
-pub returns-then-s-lt-SPAN : goal.returns-then-s-lt-SPAN
-returns-then-s-lt-SPAN c = let a = c.args in ⊎_elim (λ h. moved_low a.s a.w a.offset a.u h) (λ r. ⊎_elim (λ p. moved_high a.s a.w a.offset a.u p.1) (λ p. moved-kept a.s a.w a.offset a.u p.0 p.1 p.2) r) c.then-s-lt-SPAN.either
+pub returns-then-not-u : goal.returns-then-not-u
+returns-then-not-u c = let a = c.args in moved_on a.s a.w a.offset a.u (sym c.is_span.ensures ∙ c.if-is_span.true) c.if-not-u.true _ c.wrapping_add_u32.ensures.value
 
-pub returns : goal.returns
-returns c = let a = c.args in moved_on a.s a.w a.offset a.u c.if-s-lt-SPAN.false c.if-s-gt-UPTO.false c.if-u.false _ c.wrapping_add_u32.ensures.value
+pub returns-else-is_span : goal.returns-else-is_span
+returns-else-is_span c =
+    let a = c.args in
+    elim c.else-is_span.branch [
+      | else-is_span-via-then-is_span+else-not-u w ↦ moved_kept a.s a.w a.offset a.u (sym c.is_span.ensures ∙ w.if-is_span.true) w.if-not-u.false
+      | else-is_span-via-else-is_span w ↦ moved_other a.s a.w a.offset a.u (sym c.is_span.ensures ∙ w.if-is_span.false)
+    ]

@@ -1,33 +1,32 @@
 -- `function_builder::by_maps` meets its contract. Each arm is one kind of class.
-use mathlib.Core.Logic.{inl, inr}
-use mathlib.Core.Path.{◌≡◌, refl, sym, ◌∙◌}
-use native.Mathlib.Omega.{arith}
-use Prim.Native.Nat.{◌+◌, ◌<◌, ◌≤◌}
-use Rattle.derive_state.specs.Refers.{target_of}
-use Rattle.model.specs.References.{target}
-use Rattle.function_builder.proofs.Carries.{kind_few, own_of, opt_of, carries_small, carries_row, carries_in, carries_own, carries_none, carries_opt_in, carries_opt, carries_copied}
+use mathlib.Core.Path.{◌∙◌}
+use Rattle.function_references.specs.Fits.{Fits, FitN}
+use Rattle.function_builder.specs.Stacks.{went_by}
+use Rattle.derive_state.proofs.Classes.{ref_through, zero_through, some_through, ref_good, some_good}
+use Rattle.function_builder.proofs.Carries.{carries_small, carries_row}
 use Rattle.function_builder.proofs.by_maps.Goals as goal
 
-pub carried-requires : goal.carried-requires
-carried-requires c = let a = c.args in record { all = carries_small c.requires.by_index.0 a.maps.now a.exprmap.now a.s a.w _ (refl, kind_few a.s) c.requires.by_index.1 c.requires.fact c.if-s-lt-EXPR.true }
-
-pub returns-then-s-lt-EXPR : goal.returns-then-s-lt-EXPR
-returns-then-s-lt-EXPR c = let a = c.args in carries_row c.requires.by_index.0 a.maps.now a.exprmap.now a.s a.w _ (refl, kind_few a.s) c.requires.by_index.1 c.requires.fact c.if-s-lt-EXPR.true _ c.carried.ensures
-
-pub returns-in-Nothing : goal.returns-in-Nothing
-returns-in-Nothing c = let a = c.args in elim c.in-Nothing.is [ inl e ↦ (let h = rw e at c.target_of.ensures.0 in carries_copied c.requires.by_index.0 a.maps.now a.exprmap.now a.s a.w _ (refl, kind_few a.s) c.requires.by_index.1 c.requires.fact c.if-s-lt-EXPR.false (λ z. omega (arith, h, z)) (λ z. omega (arith, h, z))) | inr e ↦ (let h = rw e at c.target_of.ensures.0 in absurd (c.requires.fact (sym h))) ]
-
 pub bounds-exprmap-w : goal.bounds-exprmap-w
-bounds-exprmap-w c = let a = c.args in let e = c.in-Record.ensures in let l : target_of (target a.s) < 6 = omega (arith, e.0, e.1) in carries_in c.requires.by_index.0 a.maps.now a.exprmap.now a.s a.w _ (refl, kind_few a.s) c.requires.by_index.1 c.requires.fact c.if-s-lt-EXPR.false (own_of c.requires.by_index.0 a.maps.now a.exprmap.now a.s a.w _ (refl, kind_few a.s) c.requires.by_index.1 c.requires.fact c.if-s-lt-EXPR.false l) _ refl
+unfolding Fits
+bounds-exprmap-w c = let a = c.args in let fit = c.requires.by_index in ref_good a.s a.w (FitN fit.0 1024) fit.1 c.in-Own.ensures.0
 
-pub returns-in-Record : goal.returns-in-Record
-returns-in-Record c = let a = c.args in let e = c.in-Record.ensures in let l : target_of (target a.s) < 6 = omega (arith, e.0, e.1) in carries_own c.requires.by_index.0 a.maps.now a.exprmap.now a.s a.w _ (refl, kind_few a.s) c.requires.by_index.1 c.requires.fact c.if-s-lt-EXPR.false (own_of c.requires.by_index.0 a.maps.now a.exprmap.now a.s a.w _ (refl, kind_few a.s) c.requires.by_index.1 c.requires.fact c.if-s-lt-EXPR.false l) _ refl _ c.number_of.ensures
+pub bounds-exprmap-w-in-OptionalOwn-2 : goal.bounds-exprmap-w-in-OptionalOwn-2
+unfolding Fits
+bounds-exprmap-w-in-OptionalOwn-2 c = let a = c.args in let fit = c.requires.by_index in some_good a.s a.w (FitN fit.0 1024) fit.1 c.in-OptionalOwn-2.ensures.0 c.if-w-eq0.false
 
-pub returns-in-Optional : goal.returns-in-Optional
-returns-in-Optional c = let a = c.args in let e = c.in-Optional.ensures in let l : 8 ≤ target_of (target a.s) = omega (arith, e.0) in carries_none c.requires.by_index.0 a.maps.now a.exprmap.now a.s a.w _ (refl, kind_few a.s) c.requires.by_index.1 c.requires.fact c.if-s-lt-EXPR.false (opt_of c.requires.by_index.0 a.maps.now a.exprmap.now a.s a.w _ (refl, kind_few a.s) c.requires.by_index.1 c.requires.fact c.if-s-lt-EXPR.false l) c.if-w-eq0.true
+pub carried-requires : goal.carried-requires
+carried-requires c = let a = c.args in let fit = c.requires.by_index in record { all = carries_small fit.0 a.maps.now a.exprmap.now a.s a.w c.requires.fact c.target_of.result c.target_of.ensures.0 c.in_default.not-Own c.in_default.not-OptionalOwn fit.1 }
 
-pub bounds-exprmap-w-in-Optional-2 : goal.bounds-exprmap-w-in-Optional-2
-bounds-exprmap-w-in-Optional-2 c = let a = c.args in let e = c.in-Optional.ensures in let l : 8 ≤ target_of (target a.s) = omega (arith, e.0) in carries_opt_in c.requires.by_index.0 a.maps.now a.exprmap.now a.s a.w _ (refl, kind_few a.s) c.requires.by_index.1 c.requires.fact c.if-s-lt-EXPR.false c.if-w-eq0.false _ refl (opt_of c.requires.by_index.0 a.maps.now a.exprmap.now a.s a.w _ (refl, kind_few a.s) c.requires.by_index.1 c.requires.fact c.if-s-lt-EXPR.false l)
+pub returns-in-Own : goal.returns-in-Own
+unfolding went_by
+returns-in-Own c = let a = c.args in c.number_of.ensures ∙ ref_through a.s a.w c.in-Own.ensures.0 (went_by a.maps.now a.exprmap.now)
 
-pub returns-in-Optional-2 : goal.returns-in-Optional-2
-returns-in-Optional-2 c = let a = c.args in let e = c.in-Optional.ensures in let l : 8 ≤ target_of (target a.s) = omega (arith, e.0) in carries_opt c.requires.by_index.0 a.maps.now a.exprmap.now a.s a.w _ (refl, kind_few a.s) c.requires.by_index.1 c.requires.fact c.if-s-lt-EXPR.false c.if-w-eq0.false _ refl (opt_of c.requires.by_index.0 a.maps.now a.exprmap.now a.s a.w _ (refl, kind_few a.s) c.requires.by_index.1 c.requires.fact c.if-s-lt-EXPR.false l)
+pub returns-in-OptionalOwn : goal.returns-in-OptionalOwn
+returns-in-OptionalOwn c = let a = c.args in zero_through a.s a.w c.in-OptionalOwn.ensures.0 c.if-w-eq0.true (went_by a.maps.now a.exprmap.now)
+
+pub returns-in-OptionalOwn-2 : goal.returns-in-OptionalOwn-2
+unfolding went_by
+returns-in-OptionalOwn-2 c = let a = c.args in some_through a.s a.w c.in-OptionalOwn-2.ensures.0 c.if-w-eq0.false (went_by a.maps.now a.exprmap.now)
+
+pub returns-in_default : goal.returns-in_default
+returns-in_default c = let a = c.args in c.carried.ensures ∙ carries_row c.requires.by_index.0 a.maps.now a.exprmap.now a.s a.w c.requires.fact c.target_of.result c.target_of.ensures.0 c.in_default.not-Own c.in_default.not-OptionalOwn

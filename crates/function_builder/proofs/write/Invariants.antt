@@ -1,9 +1,12 @@
 -- `function_builder::write` meets its contract. Words and classes go to the top of the stack, one after the other.
+use mathlib.Core.Path.{◌≡◌}
 use Prim.Native.Nat.{◌+◌, ◌-◌, ◌≤◌}
+use Rattle.model.specs.References.{first_word}
+use Rattle.derive_state.specs.Held.{carried_by}
 use Rattle.function_builder.specs.Stacks.{went_of}
 use Rattle.function_builder.proofs.Writes.{Laying}
 use Rattle.derive_state.specs.Sizes.{going}
 use Rattle.function_builder.proofs.write.Given as goal
 
 abbrev pub invariant-loop-j : goal.invariant-loop-j
-invariant-loop-j l = (Laying l.source.image.words.now l.source.image.tags.now (went_of l.source.image.words.now l.source.image.n l.derived.log.now l.derived.logtags.now l.derived.starts.now l.derived.maps.now (going l.derived.sizes) l.exprmap) l.at l.end l.source.offset l.initial.stacks (going l.derived.sizes) l.stacks l.j (l.derived.sizes.exprtop + (l.j - l.at)) l.u) × (l.at ≤ l.j)
+invariant-loop-j l = (Laying l.source.image.words.now l.source.image.tags.now (went_of l.source.image.words.now l.source.image.n l.derived.log.now l.derived.logtags.now l.derived.starts.now l.derived.maps.now (going l.derived.sizes) l.exprmap) l.at l.end l.source.offset l.initial.stacks (going l.derived.sizes) l.stacks l.j (l.derived.sizes.exprtop + (l.j - l.at)) l.u) × (l.at ≤ l.j) × (l.w ≡ first_word (carried_by (went_of l.source.image.words.now l.source.image.n l.derived.log.now l.derived.logtags.now l.derived.starts.now l.derived.maps.now (going l.derived.sizes) l.exprmap) l.source.image.tags.now l.source.image.words.now l.j l.end))

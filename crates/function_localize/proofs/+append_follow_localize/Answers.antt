@@ -10,7 +10,7 @@ use Rattle.function_parts.specs.Exprs.{expressions}
 use Rattle.function_parts.specs.Part.{k_few}
 use Rattle.function_words.proofs.Running.{made_small}
 use Rattle.function_words.proofs.Calm.{legible_all}
-use Rattle.function_localize.proofs.Sums.{place_4, place-next, run_on, run_room, fewer_word, fewer_run}
+use Rattle.function_localize.proofs.Sums.{place_4, place-next, fewer_word, fewer_run}
 use Rattle.function_localize.proofs.Calms.{going_run}
 use Rattle.function_localize.proofs.Starts.{declares}
 use Rattle.function_localize.proofs.Locals.{exprs_low, runs_from, going_at, exprs_in, index_in, begun_kept, begun-under, declare_none, going_start, word_in, word_fits, word_bodied, callee_low, callee-ready, callee_full, callee_runs, other_runs, going_full, going_next, keep_in, keep_long, keep_exprs, keep_low, names_full, names_in_lem, names_words, names_good, names_whole}
@@ -21,29 +21,26 @@ use Rattle.std.proofs.lemmas.Result.{err_from_is_err_and}
 use Rattle.derive_state.proofs.State.{arrays_same, arrays_then}
 use Rattle.function_localize.proofs.+append_follow_localize.Goals as goal
 
-pub append-record_at-s-requires : goal.append-record_at-s-requires
-append-record_at-s-requires t c = let a = c.args in record { tape = tape a.source.image.words.now a.source.image.tags.now a.source.image.n c.requires.ground.source; k_bound = omega arith; j_bound = c.requires.f_bound }
-
-pub append-record_end-end-requires : goal.append-record_end-end-requires
-append-record_end-end-requires t c = let a = c.args in record { tape = tape a.source.image.words.now a.source.image.tags.now a.source.image.n c.requires.ground.source; k_bound = omega arith; j_bound = c.requires.f_bound }
+pub append-record-s-requires : goal.append-record-s-requires
+append-record-s-requires t c = let a = c.args in record { tape = tape a.source.image.words.now a.source.image.tags.now a.source.image.n c.requires.ground.source; k_bound = omega arith; j_bound = c.requires.f_bound }
 
 pub append-localize-requires : goal.append-localize-requires
-append-localize-requires t c = let a = c.args in let q = c.decreases in (omega arith, (c.requires.ground, (append-part c.requires.ground c.requires.f_bound c.record_at-s.ensures c.record_end-end.ensures c.requires.nested_f.scopes, (append-nested c.requires.ground c.requires.f_bound c.record_at-s.ensures c.record_end-end.ensures c.requires.nested_f.scopes c.requires.nested_f, (c.requires.stacks, c.requires.valid_arrays)))))
+append-localize-requires t c = let a = c.args in let q = c.decreases in (omega arith, (c.requires.ground, (append-part c.requires.ground c.requires.f_bound c.record-s.ensures.0 c.record-s.ensures.1 c.requires.nested_f.scopes, (append-nested c.requires.ground c.requires.f_bound c.record-s.ensures.0 c.record-s.ensures.1 c.requires.nested_f.scopes c.requires.nested_f, (c.requires.stacks, c.requires.valid_arrays)))))
 
 pub append-returns-in_err-got : goal.append-returns-in_err-got
-append-returns-in_err-got t c = let p = err_from_is_err_and c.from_residual.result c.from_residual.ensures.1 in rw (p.1, p.2) (record { does = let a = c.args in append-none c.requires.ground c.requires.f_bound c.record_at-s.ensures c.record_end-end.ensures c.requires.nested_f.scopes a.room c.in_err-got.ensures.does refl; same = c.in_err-got.ensures.same })
+append-returns-in_err-got t c = let p = err_from_is_err_and c.from_residual.result c.from_residual.ensures.1 in rw (p.1, p.2) (record { does = let a = c.args in append-none c.requires.ground c.requires.f_bound c.record-s.ensures.0 c.record-s.ensures.1 c.requires.nested_f.scopes a.room c.in_err-got.ensures.does refl; same = c.in_err-got.ensures.same })
 
-pub append-expressions_at-exprs-requires : goal.append-expressions_at-exprs-requires
-append-expressions_at-exprs-requires t c = let a = c.args in exprs_in (append-part c.requires.ground c.requires.f_bound c.record_at-s.ensures c.record_end-end.ensures c.requires.nested_f.scopes)
+pub append-expressions_at-requires : goal.append-expressions_at-requires
+append-expressions_at-requires t c = let a = c.args in exprs_in (append-part c.requires.ground c.requires.f_bound c.record-s.ensures.0 c.record-s.ensures.1 c.requires.nested_f.scopes)
 
-pub append-body_at-body-requires : goal.append-body_at-body-requires
-append-body_at-body-requires t c = let a = c.args in append-standing c.requires.ground c.requires.f_bound c.record_at-s.ensures c.record_end-end.ensures c.requires.nested_f.scopes
+pub append-body_at-requires : goal.append-body_at-requires
+append-body_at-requires t c = let a = c.args in append-standing c.requires.ground c.requires.f_bound c.record-s.ensures.0 c.record-s.ensures.1 c.requires.nested_f.scopes
 
 pub append-append_record-requires : goal.append-append_record-requires
-append-append_record-requires t c = let a = c.args in record { s_le_exprs = close-order c.requires.ground c.requires.f_bound c.record_at-s.ensures c.record_end-end.ensures c.requires.nested_f.scopes c.expressions_at-exprs.ensures.0 c.body_at-body.ensures a.room c.requires.valid_arrays c.in_ok-got.ensures.does refl; t_bound = (let z = close_few c.requires.ground c.requires.f_bound c.record_at-s.ensures c.record_end-end.ensures c.requires.nested_f.scopes c.expressions_at-exprs.ensures.0 c.body_at-body.ensures a.room c.requires.valid_arrays c.in_ok-got.ensures.does refl in (z.0, z.1, z.2, z.3, z.4)); stacks = close_stacks c.requires.ground c.requires.f_bound c.record_at-s.ensures c.record_end-end.ensures c.requires.nested_f.scopes c.expressions_at-exprs.ensures.0 c.body_at-body.ensures a.room c.requires.valid_arrays c.in_ok-got.ensures.does refl; body_len = close_names c.requires.ground c.requires.f_bound c.record_at-s.ensures c.record_end-end.ensures c.requires.nested_f.scopes c.expressions_at-exprs.ensures.0 c.body_at-body.ensures a.room c.requires.valid_arrays c.in_ok-got.ensures.does refl; by_index = close-classes c.requires.ground c.requires.f_bound c.record_at-s.ensures c.record_end-end.ensures c.requires.nested_f.scopes c.expressions_at-exprs.ensures.0 c.body_at-body.ensures a.room c.requires.valid_arrays c.in_ok-got.ensures.does refl; loglen_bound = close-room c.requires.ground c.requires.f_bound c.record_at-s.ensures c.record_end-end.ensures c.requires.nested_f.scopes c.expressions_at-exprs.ensures.0 c.body_at-body.ensures a.room c.requires.valid_arrays c.in_ok-got.ensures.does refl }
+append-append_record-requires t c = let a = c.args in record { s_le_exprs = close-order c.requires.ground c.requires.f_bound c.record-s.ensures.0 c.record-s.ensures.1 c.requires.nested_f.scopes c.expressions_at.ensures.0 c.body_at.ensures a.room c.requires.valid_arrays c.in_ok-got.ensures.does refl; t_bound = (let z = close_few c.requires.ground c.requires.f_bound c.record-s.ensures.0 c.record-s.ensures.1 c.requires.nested_f.scopes c.expressions_at.ensures.0 c.body_at.ensures a.room c.requires.valid_arrays c.in_ok-got.ensures.does refl in (z.0, z.1, z.2, z.3, z.4)); stacks = close_stacks c.requires.ground c.requires.f_bound c.record-s.ensures.0 c.record-s.ensures.1 c.requires.nested_f.scopes c.expressions_at.ensures.0 c.body_at.ensures a.room c.requires.valid_arrays c.in_ok-got.ensures.does refl; body_len = close_names c.requires.ground c.requires.f_bound c.record-s.ensures.0 c.record-s.ensures.1 c.requires.nested_f.scopes c.expressions_at.ensures.0 c.body_at.ensures a.room c.requires.valid_arrays c.in_ok-got.ensures.does refl; by_index = close-classes c.requires.ground c.requires.f_bound c.record-s.ensures.0 c.record-s.ensures.1 c.requires.nested_f.scopes c.expressions_at.ensures.0 c.body_at.ensures a.room c.requires.valid_arrays c.in_ok-got.ensures.does refl; loglen_bound = close-room c.requires.ground c.requires.f_bound c.record-s.ensures.0 c.record-s.ensures.1 c.requires.nested_f.scopes c.expressions_at.ensures.0 c.body_at.ensures a.room c.requires.valid_arrays c.in_ok-got.ensures.does refl }
 
 pub append-returns : goal.append-returns
-append-returns t c = record { does = let a = c.args in append_done c.requires.ground c.requires.f_bound c.record_at-s.ensures c.record_end-end.ensures c.requires.nested_f.scopes c.expressions_at-exprs.ensures.0 c.body_at-body.ensures a.room c.requires.valid_arrays c.in_ok-got.ensures.does refl c.requires.nested_f c.append_record.ensures; same = (let S = c.in_ok-got.ensures.same in record { log_same = S.log_same; logtags_same = S.logtags_same; starts_same = S.starts_same; maps_same = S.maps_same; buckets_same = S.buckets_same }) }
+append-returns t c = record { does = let a = c.args in append_done c.requires.ground c.requires.f_bound c.record-s.ensures.0 c.record-s.ensures.1 c.requires.nested_f.scopes c.expressions_at.ensures.0 c.body_at.ensures a.room c.requires.valid_arrays c.in_ok-got.ensures.does refl c.requires.nested_f c.append_record.ensures; same = (let S = c.in_ok-got.ensures.same in record { log_same = S.log_same; logtags_same = S.logtags_same; starts_same = S.starts_same; maps_same = S.maps_same; buckets_same = S.buckets_same }) }
 
 pub follow-returns-then-room-eq0 : goal.follow-returns-then-room-eq0
 follow-returns-then-room-eq0 t c = let a = c.args in record { import_function_ensures = record { does = follow-none a.source.image.words.now a.source.image.n a.source.offset a.f a.derived.now.log.now a.derived.now.logtags.now a.derived.now.starts.now a.derived.now.maps.now a.derived.now.buckets.now a.stacks.now (going a.ends) a.room c.if-room-eq0.true refl c.requires.stacks c.requires.valid_arrays; same = arrays_same _ }; places_after = λ _. c.requires.places_value }
@@ -78,83 +75,77 @@ localize-no_expressions-requires t c = tt
 pub localize-declare-requires : goal.localize-declare-requires
 localize-declare-requires t c = let a = c.args in let x = c.index_parts-at.ensures in let b = (ap going c.no_expressions.ensures) in record { ground = c.requires.ground; expressions = expressions c.requires.part x; declares = declares c.requires.part x; valid_arrays = begun_kept c.requires.part x c.requires.valid_arrays b; under = begun-under c.requires.part x c.requires.valid_arrays b a.stacks.now c.requires.stacks }
 
-pub localize-returns-in_err-e : goal.localize-returns-in_err-e
-localize-returns-in_err-e t c = let p = err_from_is_err_and c.from_residual.result c.from_residual.ensures.1 in rw (p.1, p.2) (record { does = let a = c.args in declare_none c.requires.part c.index_parts-at.ensures c.requires.valid_arrays a.room (ap going c.no_expressions.ensures) c.in_err-e.ensures.does refl; same = c.in_err-e.ensures.same })
+pub localize-returns-in_err-declared : goal.localize-returns-in_err-declared
+localize-returns-in_err-declared t c = let p = err_from_is_err_and c.from_residual.result c.from_residual.ensures.1 in rw (p.1, p.2) (record { does = let a = c.args in declare_none c.requires.part c.index_parts-at.ensures c.requires.valid_arrays a.room (ap going c.no_expressions.ensures) c.in_err-declared.ensures.does refl; same = c.in_err-declared.ensures.same })
 
-pub localize-loop-i-init : goal.localize-loop-i-init
-localize-loop-i-init t c = (record { on = λ _ _ g. g }, arrays_same _)
+pub localize-loop-r-init : goal.localize-loop-r-init
+localize-loop-r-init t c = (record { on = λ _ _ g. g }, arrays_same _)
 
 pub localize-copy_mapped_run-r-requires : goal.localize-copy_mapped_run-r-requires
-localize-copy_mapped_run-r-requires t c = let a = c.args in let g = c.loop-i.invariant.0.on refl c.requires.valid_arrays (going_start c.requires.part c.index_parts-at.ensures c.requires.valid_arrays a.room (ap going c.no_expressions.ensures) c.in_ok-e.ensures.does refl) in let K = g.turn.way.kept in let U = g.turn.way.under in record { legible = (legible_all (k_few c.requires.part g.read) g.turn.legible, U.stacks_are.high', made_small U) }
+localize-copy_mapped_run-r-requires t c = let a = c.args in let g = c.loop-r.invariant.0.on refl c.requires.valid_arrays (going_start c.requires.part c.index_parts-at.ensures c.requires.valid_arrays a.room (ap going c.no_expressions.ensures) c.in_ok-declared.ensures.does refl) in let K = g.turn.way.kept in let U = g.turn.way.under in record { legible = (legible_all (k_few c.requires.part g.read) g.turn.legible, U.stacks_are.high', made_small U) }
 
-pub localize-overflow_sub-r : goal.localize-overflow_sub-r
-localize-overflow_sub-r t c = run_on _ _ _ c.copy_mapped_run-r.ensures.reach
+pub localize-overflow_add-r : goal.localize-overflow_add-r
+localize-overflow_add-r t c = let a = c.args in let g = c.loop-r.invariant.0.on refl c.requires.valid_arrays (going_start c.requires.part c.index_parts-at.ensures c.requires.valid_arrays a.room (ap going c.no_expressions.ensures) c.in_ok-declared.ensures.does refl) in let l = c.loop-r in let k = going_run c.requires.ground.source c.requires.part a.source.offset a.room _ (expressions c.requires.part g.read) _ _ c.requires.valid_arrays a.stacks.now l.derived.log.now l.derived.logtags.now l.derived.starts.now l.derived.maps.now l.derived.buckets.now l.exprmap (going l.r.sizes) g c.copy_mapped_run-r.ensures.ran (ap going c.copy_mapped_run-r.ensures.sizes) in let h = word_in c.requires.part c.requires.valid_arrays k c.if-r-end.true in place-next h
 
-pub localize-advance-e-requires : goal.localize-advance-e-requires
-localize-advance-e-requires t c = let R = c.copy_mapped_run-r.ensures in run_room _ _ _ _ R.reach R.room
-
-pub localize-overflow_add-i : goal.localize-overflow_add-i
-localize-overflow_add-i t c = let a = c.args in let g = c.loop-i.invariant.0.on refl c.requires.valid_arrays (going_start c.requires.part c.index_parts-at.ensures c.requires.valid_arrays a.room (ap going c.no_expressions.ensures) c.in_ok-e.ensures.does refl) in let l = c.loop-i in let k = going_run c.requires.ground.source c.requires.part a.source.offset a.room _ (expressions c.requires.part g.read) _ _ c.requires.valid_arrays a.stacks.now l.derived.log.now l.derived.logtags.now l.derived.starts.now l.derived.maps.now l.derived.buckets.now l.exprmap (going l.e) g c.copy_mapped_run-r.ensures (ap going c.advance-e.ensures) in let h = word_in c.requires.part c.requires.valid_arrays k c.if-i-end.true in place-next h
-
-pub localize-span_undefined-u-requires : goal.localize-span_undefined-u-requires
-localize-span_undefined-u-requires t c = let a = c.args in let g = c.loop-i.invariant.0.on refl c.requires.valid_arrays (going_start c.requires.part c.index_parts-at.ensures c.requires.valid_arrays a.room (ap going c.no_expressions.ensures) c.in_ok-e.ensures.does refl) in let l = c.loop-i in let k = going_run c.requires.ground.source c.requires.part a.source.offset a.room _ (expressions c.requires.part g.read) _ _ c.requires.valid_arrays a.stacks.now l.derived.log.now l.derived.logtags.now l.derived.starts.now l.derived.maps.now l.derived.buckets.now l.exprmap (going l.e) g c.copy_mapped_run-r.ensures (ap going c.advance-e.ensures) in (k.turn.legible.stretch, c.if-i-end.true)
+pub localize-span_undefined-requires : goal.localize-span_undefined-requires
+localize-span_undefined-requires t c = let a = c.args in let g = c.loop-r.invariant.0.on refl c.requires.valid_arrays (going_start c.requires.part c.index_parts-at.ensures c.requires.valid_arrays a.room (ap going c.no_expressions.ensures) c.in_ok-declared.ensures.does refl) in let l = c.loop-r in let k = going_run c.requires.ground.source c.requires.part a.source.offset a.room _ (expressions c.requires.part g.read) _ _ c.requires.valid_arrays a.stacks.now l.derived.log.now l.derived.logtags.now l.derived.starts.now l.derived.maps.now l.derived.buckets.now l.exprmap (going l.r.sizes) g c.copy_mapped_run-r.ensures.ran (ap going c.copy_mapped_run-r.ensures.sizes) in (k.turn.legible.stretch, c.if-r-end.true)
 
 pub localize-bounds-source-j : goal.localize-bounds-source-j
-localize-bounds-source-j t c = let a = c.args in let g = c.loop-i.invariant.0.on refl c.requires.valid_arrays (going_start c.requires.part c.index_parts-at.ensures c.requires.valid_arrays a.room (ap going c.no_expressions.ensures) c.in_ok-e.ensures.does refl) in let l = c.loop-i in let k = going_run c.requires.ground.source c.requires.part a.source.offset a.room _ (expressions c.requires.part g.read) _ _ c.requires.valid_arrays a.stacks.now l.derived.log.now l.derived.logtags.now l.derived.starts.now l.derived.maps.now l.derived.buckets.now l.exprmap (going l.e) g c.copy_mapped_run-r.ensures (ap going c.advance-e.ensures) in let h = word_in c.requires.part c.requires.valid_arrays k c.if-i-end.true in h
+localize-bounds-source-j t c = let a = c.args in let g = c.loop-r.invariant.0.on refl c.requires.valid_arrays (going_start c.requires.part c.index_parts-at.ensures c.requires.valid_arrays a.room (ap going c.no_expressions.ensures) c.in_ok-declared.ensures.does refl) in let l = c.loop-r in let k = going_run c.requires.ground.source c.requires.part a.source.offset a.room _ (expressions c.requires.part g.read) _ _ c.requires.valid_arrays a.stacks.now l.derived.log.now l.derived.logtags.now l.derived.starts.now l.derived.maps.now l.derived.buckets.now l.exprmap (going l.r.sizes) g c.copy_mapped_run-r.ensures.ran (ap going c.copy_mapped_run-r.ensures.sizes) in let h = word_in c.requires.part c.requires.valid_arrays k c.if-r-end.true in h
 
 pub localize-offset_bounds-source-j : goal.localize-offset_bounds-source-j
-localize-offset_bounds-source-j t c = let a = c.args in let g = c.loop-i.invariant.0.on refl c.requires.valid_arrays (going_start c.requires.part c.index_parts-at.ensures c.requires.valid_arrays a.room (ap going c.no_expressions.ensures) c.in_ok-e.ensures.does refl) in let l = c.loop-i in let k = going_run c.requires.ground.source c.requires.part a.source.offset a.room _ (expressions c.requires.part g.read) _ _ c.requires.valid_arrays a.stacks.now l.derived.log.now l.derived.logtags.now l.derived.starts.now l.derived.maps.now l.derived.buckets.now l.exprmap (going l.e) g c.copy_mapped_run-r.ensures (ap going c.advance-e.ensures) in let h = word_in c.requires.part c.requires.valid_arrays k c.if-i-end.true in place_4 h
+localize-offset_bounds-source-j t c = let a = c.args in let g = c.loop-r.invariant.0.on refl c.requires.valid_arrays (going_start c.requires.part c.index_parts-at.ensures c.requires.valid_arrays a.room (ap going c.no_expressions.ensures) c.in_ok-declared.ensures.does refl) in let l = c.loop-r in let k = going_run c.requires.ground.source c.requires.part a.source.offset a.room _ (expressions c.requires.part g.read) _ _ c.requires.valid_arrays a.stacks.now l.derived.log.now l.derived.logtags.now l.derived.starts.now l.derived.maps.now l.derived.buckets.now l.exprmap (going l.r.sizes) g c.copy_mapped_run-r.ensures.ran (ap going c.copy_mapped_run-r.ensures.sizes) in let h = word_in c.requires.part c.requires.valid_arrays k c.if-r-end.true in place_4 h
 
 pub localize-bounds-source-j-then-source-j-eq-CALLEE : goal.localize-bounds-source-j-then-source-j-eq-CALLEE
-localize-bounds-source-j-then-source-j-eq-CALLEE t c = let a = c.args in let g = c.loop-i.invariant.0.on refl c.requires.valid_arrays (going_start c.requires.part c.index_parts-at.ensures c.requires.valid_arrays a.room (ap going c.no_expressions.ensures) c.in_ok-e.ensures.does refl) in let l = c.loop-i in let k = going_run c.requires.ground.source c.requires.part a.source.offset a.room _ (expressions c.requires.part g.read) _ _ c.requires.valid_arrays a.stacks.now l.derived.log.now l.derived.logtags.now l.derived.starts.now l.derived.maps.now l.derived.buckets.now l.exprmap (going l.e) g c.copy_mapped_run-r.ensures (ap going c.advance-e.ensures) in let h = word_in c.requires.part c.requires.valid_arrays k c.if-i-end.true in h
+localize-bounds-source-j-then-source-j-eq-CALLEE t c = let a = c.args in let g = c.loop-r.invariant.0.on refl c.requires.valid_arrays (going_start c.requires.part c.index_parts-at.ensures c.requires.valid_arrays a.room (ap going c.no_expressions.ensures) c.in_ok-declared.ensures.does refl) in let l = c.loop-r in let k = going_run c.requires.ground.source c.requires.part a.source.offset a.room _ (expressions c.requires.part g.read) _ _ c.requires.valid_arrays a.stacks.now l.derived.log.now l.derived.logtags.now l.derived.starts.now l.derived.maps.now l.derived.buckets.now l.exprmap (going l.r.sizes) g c.copy_mapped_run-r.ensures.ran (ap going c.copy_mapped_run-r.ensures.sizes) in let h = word_in c.requires.part c.requires.valid_arrays k c.if-r-end.true in h
 
 pub localize-overflow_add-exprs : goal.localize-overflow_add-exprs
 localize-overflow_add-exprs t c = place-next (exprs_low c.requires.part c.index_parts-at.ensures)
 
 pub localize-follow-requires : goal.localize-follow-requires
-localize-follow-requires t c = let a = c.args in let g = c.loop-i.invariant.0.on refl c.requires.valid_arrays (going_start c.requires.part c.index_parts-at.ensures c.requires.valid_arrays a.room (ap going c.no_expressions.ensures) c.in_ok-e.ensures.does refl) in let l = c.loop-i in let k = going_run c.requires.ground.source c.requires.part a.source.offset a.room _ (expressions c.requires.part g.read) _ _ c.requires.valid_arrays a.stacks.now l.derived.log.now l.derived.logtags.now l.derived.starts.now l.derived.maps.now l.derived.buckets.now l.exprmap (going l.e) g c.copy_mapped_run-r.ensures (ap going c.advance-e.ensures) in let q = c.decreases in (omega arith, (c.requires.ground, (callee_low c.requires.part c.requires.valid_arrays k c.if-i-end.true c.if-source-j-eq-CALLEE.true refl, (callee-ready c.requires.part c.requires.valid_arrays k c.if-i-end.true c.if-source-j-eq-CALLEE.true refl c.requires.nested, (k.turn.way.under.stacks_are, (k.turn.way.kept, (index_in c.requires.part k.read.ea_is, k.read.places_are)))))))
+localize-follow-requires t c = let a = c.args in let g = c.loop-r.invariant.0.on refl c.requires.valid_arrays (going_start c.requires.part c.index_parts-at.ensures c.requires.valid_arrays a.room (ap going c.no_expressions.ensures) c.in_ok-declared.ensures.does refl) in let l = c.loop-r in let k = going_run c.requires.ground.source c.requires.part a.source.offset a.room _ (expressions c.requires.part g.read) _ _ c.requires.valid_arrays a.stacks.now l.derived.log.now l.derived.logtags.now l.derived.starts.now l.derived.maps.now l.derived.buckets.now l.exprmap (going l.r.sizes) g c.copy_mapped_run-r.ensures.ran (ap going c.copy_mapped_run-r.ensures.sizes) in let q = c.decreases in (omega arith, (c.requires.ground, (callee_low c.requires.part c.requires.valid_arrays k c.if-r-end.true c.if-source-j-eq-CALLEE.true refl, (callee-ready c.requires.part c.requires.valid_arrays k c.if-r-end.true c.if-source-j-eq-CALLEE.true refl c.requires.nested, (k.turn.way.under.stacks_are, (k.turn.way.kept, (index_in c.requires.part k.read.ea_is, k.read.places_are)))))))
 
-pub localize-returns-in_err-e-2 : goal.localize-returns-in_err-e-2
-localize-returns-in_err-e-2 t c = let p = err_from_is_err_and c.from_residual-in_err-e-2.result c.from_residual-in_err-e-2.ensures.1 in rw (p.1, p.2) (record { does = let a = c.args in let g = c.loop-i.invariant.0.on refl c.requires.valid_arrays (going_start c.requires.part c.index_parts-at.ensures c.requires.valid_arrays a.room (ap going c.no_expressions.ensures) c.in_ok-e.ensures.does refl) in let l = c.loop-i in let k = going_run c.requires.ground.source c.requires.part a.source.offset a.room _ (expressions c.requires.part g.read) _ _ c.requires.valid_arrays a.stacks.now l.derived.log.now l.derived.logtags.now l.derived.starts.now l.derived.maps.now l.derived.buckets.now l.exprmap (going l.e) g c.copy_mapped_run-r.ensures (ap going c.advance-e.ensures) in callee_full c.requires.part c.requires.valid_arrays k c.if-i-end.true c.if-source-j-eq-CALLEE.true refl c.in_err-e-2.ensures.import_function_ensures.does refl; same = arrays_then c.in_ok-e.ensures.same (arrays_then c.loop-i.invariant.1 c.in_err-e-2.ensures.import_function_ensures.same) })
+pub localize-returns-in_err-e : goal.localize-returns-in_err-e
+localize-returns-in_err-e t c = let p = err_from_is_err_and c.from_residual-in_err-e.result c.from_residual-in_err-e.ensures.1 in rw (p.1, p.2) (record { does = let a = c.args in let g = c.loop-r.invariant.0.on refl c.requires.valid_arrays (going_start c.requires.part c.index_parts-at.ensures c.requires.valid_arrays a.room (ap going c.no_expressions.ensures) c.in_ok-declared.ensures.does refl) in let l = c.loop-r in let k = going_run c.requires.ground.source c.requires.part a.source.offset a.room _ (expressions c.requires.part g.read) _ _ c.requires.valid_arrays a.stacks.now l.derived.log.now l.derived.logtags.now l.derived.starts.now l.derived.maps.now l.derived.buckets.now l.exprmap (going l.r.sizes) g c.copy_mapped_run-r.ensures.ran (ap going c.copy_mapped_run-r.ensures.sizes) in callee_full c.requires.part c.requires.valid_arrays k c.if-r-end.true c.if-source-j-eq-CALLEE.true refl c.in_err-e.ensures.import_function_ensures.does refl; same = arrays_then c.in_ok-declared.ensures.same (arrays_then c.loop-r.invariant.1 c.in_err-e.ensures.import_function_ensures.same) })
 
 pub localize-put_word-requires : goal.localize-put_word-requires
-localize-put_word-requires t c = let v = c.view.ensures in let a = c.args in let g = c.loop-i.invariant.0.on refl c.requires.valid_arrays (going_start c.requires.part c.index_parts-at.ensures c.requires.valid_arrays a.room (ap going c.no_expressions.ensures) c.in_ok-e.ensures.does refl) in let l = c.loop-i in let k = going_run c.requires.ground.source c.requires.part a.source.offset a.room _ (expressions c.requires.part g.read) _ _ c.requires.valid_arrays a.stacks.now l.derived.log.now l.derived.logtags.now l.derived.starts.now l.derived.maps.now l.derived.buckets.now l.exprmap (going l.e) g c.copy_mapped_run-r.ensures (ap going c.advance-e.ensures) in let w = c.in_ok-e-2.ensures.import_function_ensures.does in let z = refl in record { ground = c.requires.ground; bearing = rw (v.0, v.1, v.2, v.5) (bearing (w.kept z)); i_bound = word_fits c.requires.part c.requires.valid_arrays k c.if-i-end.true; stacks = rw v.5 (w.stacks_are z) }
+localize-put_word-requires t c = let v = c.view.ensures in let a = c.args in let g = c.loop-r.invariant.0.on refl c.requires.valid_arrays (going_start c.requires.part c.index_parts-at.ensures c.requires.valid_arrays a.room (ap going c.no_expressions.ensures) c.in_ok-declared.ensures.does refl) in let l = c.loop-r in let k = going_run c.requires.ground.source c.requires.part a.source.offset a.room _ (expressions c.requires.part g.read) _ _ c.requires.valid_arrays a.stacks.now l.derived.log.now l.derived.logtags.now l.derived.starts.now l.derived.maps.now l.derived.buckets.now l.exprmap (going l.r.sizes) g c.copy_mapped_run-r.ensures.ran (ap going c.copy_mapped_run-r.ensures.sizes) in let w = c.in_ok-e.ensures.import_function_ensures.does in let z = refl in record { ground = c.requires.ground; bearing = rw (v.0, v.1, v.2, v.5) (bearing (w.kept z)); i_bound = word_fits c.requires.part c.requires.valid_arrays k c.if-r-end.true; stacks = rw v.5 (w.stacks_are z) }
 
 pub localize-import_word-requires : goal.localize-import_word-requires
-localize-import_word-requires t c = let a = c.args in let g = c.loop-i.invariant.0.on refl c.requires.valid_arrays (going_start c.requires.part c.index_parts-at.ensures c.requires.valid_arrays a.room (ap going c.no_expressions.ensures) c.in_ok-e.ensures.does refl) in let l = c.loop-i in let k = going_run c.requires.ground.source c.requires.part a.source.offset a.room _ (expressions c.requires.part g.read) _ _ c.requires.valid_arrays a.stacks.now l.derived.log.now l.derived.logtags.now l.derived.starts.now l.derived.maps.now l.derived.buckets.now l.exprmap (going l.e) g c.copy_mapped_run-r.ensures (ap going c.advance-e.ensures) in record { ground = c.requires.ground; expressions = expressions c.requires.part k.read; bodied = word_bodied c.requires.part c.requires.valid_arrays k c.if-i-end.true; valid_arrays = k.turn.way.kept; under = k.turn.way.under }
+localize-import_word-requires t c = let a = c.args in let g = c.loop-r.invariant.0.on refl c.requires.valid_arrays (going_start c.requires.part c.index_parts-at.ensures c.requires.valid_arrays a.room (ap going c.no_expressions.ensures) c.in_ok-declared.ensures.does refl) in let l = c.loop-r in let k = going_run c.requires.ground.source c.requires.part a.source.offset a.room _ (expressions c.requires.part g.read) _ _ c.requires.valid_arrays a.stacks.now l.derived.log.now l.derived.logtags.now l.derived.starts.now l.derived.maps.now l.derived.buckets.now l.exprmap (going l.r.sizes) g c.copy_mapped_run-r.ensures.ran (ap going c.copy_mapped_run-r.ensures.sizes) in record { ground = c.requires.ground; expressions = expressions c.requires.part k.read; bodied = word_bodied c.requires.part c.requires.valid_arrays k c.if-r-end.true; valid_arrays = k.turn.way.kept; under = k.turn.way.under }
 
-pub localize-returns-in_err-e-3 : goal.localize-returns-in_err-e-3
-localize-returns-in_err-e-3 t c = let v = c.view.ensures in let p = err_from_is_err_and c.from_residual-in_err-e-3.result c.from_residual-in_err-e-3.ensures.1 in rw (p.1, p.2) (record { does = let a = c.args in let g = c.loop-i.invariant.0.on refl c.requires.valid_arrays (going_start c.requires.part c.index_parts-at.ensures c.requires.valid_arrays a.room (ap going c.no_expressions.ensures) c.in_ok-e.ensures.does refl) in let l = c.loop-i in let k = going_run c.requires.ground.source c.requires.part a.source.offset a.room _ (expressions c.requires.part g.read) _ _ c.requires.valid_arrays a.stacks.now l.derived.log.now l.derived.logtags.now l.derived.starts.now l.derived.maps.now l.derived.buckets.now l.exprmap (going l.e) g c.copy_mapped_run-r.ensures (ap going c.advance-e.ensures) in going_full c.requires.part c.requires.valid_arrays k c.if-i-end.true c.span_undefined-u.ensures (callee_runs c.requires.part c.requires.valid_arrays k c.if-i-end.true c.if-source-j-eq-CALLEE.true refl c.in_ok-e-2.ensures.import_function_ensures.does refl c.span_undefined-u.result (rw (v.0, v.1, v.2, v.3, v.5) at c.in_err-e-3.ensures)) refl; same = arrays_then c.in_ok-e.ensures.same (arrays_then c.loop-i.invariant.1 c.in_ok-e-2.ensures.import_function_ensures.same) })
+pub localize-returns-in_err-r : goal.localize-returns-in_err-r
+localize-returns-in_err-r t c = let v = c.view.ensures in let p = err_from_is_err_and c.from_residual-in_err-r.result c.from_residual-in_err-r.ensures.1 in rw (p.1, p.2) (record { does = let a = c.args in let g = c.loop-r.invariant.0.on refl c.requires.valid_arrays (going_start c.requires.part c.index_parts-at.ensures c.requires.valid_arrays a.room (ap going c.no_expressions.ensures) c.in_ok-declared.ensures.does refl) in let l = c.loop-r in let k = going_run c.requires.ground.source c.requires.part a.source.offset a.room _ (expressions c.requires.part g.read) _ _ c.requires.valid_arrays a.stacks.now l.derived.log.now l.derived.logtags.now l.derived.starts.now l.derived.maps.now l.derived.buckets.now l.exprmap (going l.r.sizes) g c.copy_mapped_run-r.ensures.ran (ap going c.copy_mapped_run-r.ensures.sizes) in going_full c.requires.part c.requires.valid_arrays k c.if-r-end.true c.span_undefined.ensures (callee_runs c.requires.part c.requires.valid_arrays k c.if-r-end.true c.if-source-j-eq-CALLEE.true refl c.in_ok-e.ensures.import_function_ensures.does refl c.span_undefined.result (rw (v.0, v.1, v.2, v.3, v.5) at c.in_err-r.ensures)) refl; same = arrays_then c.in_ok-declared.ensures.same (arrays_then c.loop-r.invariant.1 c.in_ok-e.ensures.import_function_ensures.same) })
 
-pub localize-returns-in_err-e-4 : goal.localize-returns-in_err-e-4
-localize-returns-in_err-e-4 t c = let p = err_from_is_err_and c.from_residual-in_err-e-4.result c.from_residual-in_err-e-4.ensures.1 in rw (p.1, p.2) (record { does = let a = c.args in let g = c.loop-i.invariant.0.on refl c.requires.valid_arrays (going_start c.requires.part c.index_parts-at.ensures c.requires.valid_arrays a.room (ap going c.no_expressions.ensures) c.in_ok-e.ensures.does refl) in let l = c.loop-i in let k = going_run c.requires.ground.source c.requires.part a.source.offset a.room _ (expressions c.requires.part g.read) _ _ c.requires.valid_arrays a.stacks.now l.derived.log.now l.derived.logtags.now l.derived.starts.now l.derived.maps.now l.derived.buckets.now l.exprmap (going l.e) g c.copy_mapped_run-r.ensures (ap going c.advance-e.ensures) in going_full c.requires.part c.requires.valid_arrays k c.if-i-end.true c.span_undefined-u.ensures (other_runs c.requires.part c.requires.valid_arrays k c.if-i-end.true c.if-source-j-eq-CALLEE.false c.span_undefined-u.result (runs_from refl c.in_err-e-4.ensures.does)) refl; same = arrays_then c.in_ok-e.ensures.same (arrays_then c.loop-i.invariant.1 c.in_err-e-4.ensures.same) })
+pub localize-returns-in_err-r-2 : goal.localize-returns-in_err-r-2
+localize-returns-in_err-r-2 t c = let p = err_from_is_err_and c.from_residual-in_err-r-2.result c.from_residual-in_err-r-2.ensures.1 in rw (p.1, p.2) (record { does = let a = c.args in let g = c.loop-r.invariant.0.on refl c.requires.valid_arrays (going_start c.requires.part c.index_parts-at.ensures c.requires.valid_arrays a.room (ap going c.no_expressions.ensures) c.in_ok-declared.ensures.does refl) in let l = c.loop-r in let k = going_run c.requires.ground.source c.requires.part a.source.offset a.room _ (expressions c.requires.part g.read) _ _ c.requires.valid_arrays a.stacks.now l.derived.log.now l.derived.logtags.now l.derived.starts.now l.derived.maps.now l.derived.buckets.now l.exprmap (going l.r.sizes) g c.copy_mapped_run-r.ensures.ran (ap going c.copy_mapped_run-r.ensures.sizes) in going_full c.requires.part c.requires.valid_arrays k c.if-r-end.true c.span_undefined.ensures (other_runs c.requires.part c.requires.valid_arrays k c.if-r-end.true c.if-source-j-eq-CALLEE.false c.span_undefined.result (runs_from refl c.in_err-r-2.ensures.does)) refl; same = arrays_then c.in_ok-declared.ensures.same (arrays_then c.loop-r.invariant.1 c.in_err-r-2.ensures.same) })
 
-pub localize-loop-i-smaller-then-source-j-eq-CALLEE : goal.localize-loop-i-smaller-then-source-j-eq-CALLEE
-localize-loop-i-smaller-then-source-j-eq-CALLEE t c = let h = c.loop-i-test.true in let z = c.copy_mapped_run-r.ensures.reach in fewer_word _ _ _ _ h z
+pub localize-loop-r-smaller-then-source-j-eq-CALLEE : goal.localize-loop-r-smaller-then-source-j-eq-CALLEE
+localize-loop-r-smaller-then-source-j-eq-CALLEE t c = let h = c.loop-r-test.true in let z = c.copy_mapped_run-r.ensures.ran.reach in fewer_word _ _ _ _ h z
 
-pub localize-loop-i-smaller-else-source-j-eq-CALLEE : goal.localize-loop-i-smaller-else-source-j-eq-CALLEE
-localize-loop-i-smaller-else-source-j-eq-CALLEE t c = let h = c.loop-i-test.true in let z = c.copy_mapped_run-r.ensures.reach in fewer_word _ _ _ _ h z
+pub localize-loop-r-smaller-else-source-j-eq-CALLEE : goal.localize-loop-r-smaller-else-source-j-eq-CALLEE
+localize-loop-r-smaller-else-source-j-eq-CALLEE t c = let h = c.loop-r-test.true in let z = c.copy_mapped_run-r.ensures.ran.reach in fewer_word _ _ _ _ h z
 
-pub localize-loop-i-preserved-then-source-j-eq-CALLEE : goal.localize-loop-i-preserved-then-source-j-eq-CALLEE
-localize-loop-i-preserved-then-source-j-eq-CALLEE t c = let v = c.view.ensures in (let a = c.args in record { on = λ q K₀ g₀. let g = c.loop-i.invariant.0.on q K₀ g₀ in let l = c.loop-i in let k = going_run c.requires.ground.source c.requires.part a.source.offset a.room _ (expressions c.requires.part g.read) _ _ K₀ _ l.derived.log.now l.derived.logtags.now l.derived.starts.now l.derived.maps.now l.derived.buckets.now l.exprmap (going l.e) g c.copy_mapped_run-r.ensures (ap going c.advance-e.ensures) in going_at (c.in_ok-e-2.ensures.places_after refl ∙ sym k.read.places_are) (going_next c.requires.part K₀ k c.if-i-end.true c.span_undefined-u.ensures (callee_runs c.requires.part K₀ k c.if-i-end.true c.if-source-j-eq-CALLEE.true refl c.in_ok-e-2.ensures.import_function_ensures.does refl c.span_undefined-u.result (rw (v.0, v.1, v.2, v.3, v.5) at c.in_ok-e-3.ensures)) refl) }, arrays_then c.loop-i.invariant.1 c.in_ok-e-2.ensures.import_function_ensures.same)
+pub localize-loop-r-preserved-then-source-j-eq-CALLEE : goal.localize-loop-r-preserved-then-source-j-eq-CALLEE
+localize-loop-r-preserved-then-source-j-eq-CALLEE t c = let v = c.view.ensures in (let a = c.args in record { on = λ q K₀ g₀. let g = c.loop-r.invariant.0.on q K₀ g₀ in let l = c.loop-r in let k = going_run c.requires.ground.source c.requires.part a.source.offset a.room _ (expressions c.requires.part g.read) _ _ K₀ _ l.derived.log.now l.derived.logtags.now l.derived.starts.now l.derived.maps.now l.derived.buckets.now l.exprmap (going l.r.sizes) g c.copy_mapped_run-r.ensures.ran (ap going c.copy_mapped_run-r.ensures.sizes) in going_at (c.in_ok-e.ensures.places_after refl ∙ sym k.read.places_are) (going_next c.requires.part K₀ k c.if-r-end.true c.span_undefined.ensures (callee_runs c.requires.part K₀ k c.if-r-end.true c.if-source-j-eq-CALLEE.true refl c.in_ok-e.ensures.import_function_ensures.does refl c.span_undefined.result (rw (v.0, v.1, v.2, v.3, v.5) at c.in_ok-r.ensures)) refl) }, arrays_then c.loop-r.invariant.1 c.in_ok-e.ensures.import_function_ensures.same)
 
-pub localize-loop-i-preserved-else-source-j-eq-CALLEE : goal.localize-loop-i-preserved-else-source-j-eq-CALLEE
-localize-loop-i-preserved-else-source-j-eq-CALLEE t c = (let a = c.args in record { on = λ q K₀ g₀. let g = c.loop-i.invariant.0.on q K₀ g₀ in let l = c.loop-i in let k = going_run c.requires.ground.source c.requires.part a.source.offset a.room _ (expressions c.requires.part g.read) _ _ K₀ _ l.derived.log.now l.derived.logtags.now l.derived.starts.now l.derived.maps.now l.derived.buckets.now l.exprmap (going l.e) g c.copy_mapped_run-r.ensures (ap going c.advance-e.ensures) in going_at refl (going_next c.requires.part K₀ k c.if-i-end.true c.span_undefined-u.ensures (other_runs c.requires.part K₀ k c.if-i-end.true c.if-source-j-eq-CALLEE.false c.span_undefined-u.result (runs_from q c.in_ok-e-4.ensures.does)) refl) }, arrays_then c.loop-i.invariant.1 c.in_ok-e-4.ensures.same)
+pub localize-loop-r-preserved-else-source-j-eq-CALLEE : goal.localize-loop-r-preserved-else-source-j-eq-CALLEE
+localize-loop-r-preserved-else-source-j-eq-CALLEE t c = (let a = c.args in record { on = λ q K₀ g₀. let g = c.loop-r.invariant.0.on q K₀ g₀ in let l = c.loop-r in let k = going_run c.requires.ground.source c.requires.part a.source.offset a.room _ (expressions c.requires.part g.read) _ _ K₀ _ l.derived.log.now l.derived.logtags.now l.derived.starts.now l.derived.maps.now l.derived.buckets.now l.exprmap (going l.r.sizes) g c.copy_mapped_run-r.ensures.ran (ap going c.copy_mapped_run-r.ensures.sizes) in going_at refl (going_next c.requires.part K₀ k c.if-r-end.true c.span_undefined.ensures (other_runs c.requires.part K₀ k c.if-r-end.true c.if-source-j-eq-CALLEE.false c.span_undefined.result (runs_from q c.in_ok-r-2.ensures.does)) refl) }, arrays_then c.loop-r.invariant.1 c.in_ok-r-2.ensures.same)
 
-pub localize-loop-i-smaller : goal.localize-loop-i-smaller
-localize-loop-i-smaller t c = let h = c.loop-i-test.true in let z = c.copy_mapped_run-r.ensures.reach in let y = c.if-i-end.false in fewer_run _ _ _ _ h z y
+pub localize-loop-r-smaller : goal.localize-loop-r-smaller
+localize-loop-r-smaller t c = let h = c.loop-r-test.true in let z = c.copy_mapped_run-r.ensures.ran.reach in let y = c.if-r-end.false in fewer_run _ _ _ _ h z y
 
-pub localize-loop-i-preserved : goal.localize-loop-i-preserved
-localize-loop-i-preserved t c = (let a = c.args in record { on = λ q K₀ g₀. let g = c.loop-i.invariant.0.on q K₀ g₀ in let l = c.loop-i in let k = going_run c.requires.ground.source c.requires.part a.source.offset a.room _ (expressions c.requires.part g.read) _ _ K₀ _ l.derived.log.now l.derived.logtags.now l.derived.starts.now l.derived.maps.now l.derived.buckets.now l.exprmap (going l.e) g c.copy_mapped_run-r.ensures (ap going c.advance-e.ensures) in k }, c.loop-i.invariant.1)
+pub localize-loop-r-preserved : goal.localize-loop-r-preserved
+localize-loop-r-preserved t c = (let a = c.args in record { on = λ q K₀ g₀. let g = c.loop-r.invariant.0.on q K₀ g₀ in let l = c.loop-r in let k = going_run c.requires.ground.source c.requires.part a.source.offset a.room _ (expressions c.requires.part g.read) _ _ K₀ _ l.derived.log.now l.derived.logtags.now l.derived.starts.now l.derived.maps.now l.derived.buckets.now l.exprmap (going l.r.sizes) g c.copy_mapped_run-r.ensures.ran (ap going c.copy_mapped_run-r.ensures.sizes) in k }, c.loop-r.invariant.1)
 
 pub localize-keep_names-requires : goal.localize-keep_names-requires
-localize-keep_names-requires t c = let a = c.args in let g = c.loop-i.invariant.0.on refl c.requires.valid_arrays (going_start c.requires.part c.index_parts-at.ensures c.requires.valid_arrays a.room (ap going c.no_expressions.ensures) c.in_ok-e.ensures.does refl) in record { at_bound = keep_in c.requires.part c.requires.valid_arrays g c.loop-i-test.false; k_bound = (let z = keep_long c.requires.part c.requires.valid_arrays g c.loop-i-test.false in (z.0, z.1)); by_index = keep_exprs c.requires.part c.requires.valid_arrays g c.loop-i-test.false; by_index_2 = keep_low c.requires.part c.requires.valid_arrays g c.loop-i-test.false; stacks = g.turn.way.under.stacks_are }
+localize-keep_names-requires t c = let a = c.args in let g = c.loop-r.invariant.0.on refl c.requires.valid_arrays (going_start c.requires.part c.index_parts-at.ensures c.requires.valid_arrays a.room (ap going c.no_expressions.ensures) c.in_ok-declared.ensures.does refl) in record { at_bound = keep_in c.requires.part c.requires.valid_arrays g c.loop-r-test.false; k_bound = (let z = keep_long c.requires.part c.requires.valid_arrays g c.loop-r-test.false in (z.0, z.1)); by_index = keep_exprs c.requires.part c.requires.valid_arrays g c.loop-r-test.false; by_index_2 = keep_low c.requires.part c.requires.valid_arrays g c.loop-r-test.false; stacks = g.turn.way.under.stacks_are }
 
 pub localize-returns-in_err-kept : goal.localize-returns-in_err-kept
-localize-returns-in_err-kept t c = let p = err_from_is_err_and c.from_residual-in_err-kept.result c.from_residual-in_err-kept.ensures.1 in rw (p.1, p.2) (record { does = let a = c.args in let g = c.loop-i.invariant.0.on refl c.requires.valid_arrays (going_start c.requires.part c.index_parts-at.ensures c.requires.valid_arrays a.room (ap going c.no_expressions.ensures) c.in_ok-e.ensures.does refl) in names_full c.requires.part c.requires.valid_arrays g c.loop-i-test.false c.in_err-kept.ensures refl; same = arrays_then c.in_ok-e.ensures.same c.loop-i.invariant.1 })
+localize-returns-in_err-kept t c = let p = err_from_is_err_and c.from_residual-in_err-kept.result c.from_residual-in_err-kept.ensures.1 in rw (p.1, p.2) (record { does = let a = c.args in let g = c.loop-r.invariant.0.on refl c.requires.valid_arrays (going_start c.requires.part c.index_parts-at.ensures c.requires.valid_arrays a.room (ap going c.no_expressions.ensures) c.in_ok-declared.ensures.does refl) in names_full c.requires.part c.requires.valid_arrays g c.loop-r-test.false c.in_err-kept.ensures refl; same = arrays_then c.in_ok-declared.ensures.same c.loop-r.invariant.1 })
 
 pub localize-import_names-requires : goal.localize-import_names-requires
-localize-import_names-requires t c = let a = c.args in let g = c.loop-i.invariant.0.on refl c.requires.valid_arrays (going_start c.requires.part c.index_parts-at.ensures c.requires.valid_arrays a.room (ap going c.no_expressions.ensures) c.in_ok-e.ensures.does refl) in record { ground = c.requires.ground; b_le_bodytop = (names_in_lem c.requires.part c.requires.valid_arrays g c.loop-i-test.false c.in_ok-kept.ensures refl).0; by_index = names_words c.requires.part c.requires.valid_arrays g c.loop-i-test.false c.in_ok-kept.ensures refl; stacks = c.in_ok-kept.ensures.stacks_are refl; valid_arrays = names_good c.requires.part c.requires.valid_arrays g c.loop-i-test.false c.in_ok-kept.ensures refl }
+localize-import_names-requires t c = let a = c.args in let g = c.loop-r.invariant.0.on refl c.requires.valid_arrays (going_start c.requires.part c.index_parts-at.ensures c.requires.valid_arrays a.room (ap going c.no_expressions.ensures) c.in_ok-declared.ensures.does refl) in record { ground = c.requires.ground; b_le_bodytop = (names_in_lem c.requires.part c.requires.valid_arrays g c.loop-r-test.false c.in_ok-kept.ensures refl).0; by_index = names_words c.requires.part c.requires.valid_arrays g c.loop-r-test.false c.in_ok-kept.ensures refl; stacks = c.in_ok-kept.ensures.stacks_are refl; valid_arrays = names_good c.requires.part c.requires.valid_arrays g c.loop-r-test.false c.in_ok-kept.ensures refl }
 
 pub localize-returns : goal.localize-returns
-localize-returns t c = record { does = let a = c.args in let g = c.loop-i.invariant.0.on refl c.requires.valid_arrays (going_start c.requires.part c.index_parts-at.ensures c.requires.valid_arrays a.room (ap going c.no_expressions.ensures) c.in_ok-e.ensures.does refl) in names_whole c.requires.part c.requires.valid_arrays g c.loop-i-test.false c.in_ok-kept.ensures refl c.import_names.ensures.does; same = arrays_then c.in_ok-e.ensures.same (arrays_then c.loop-i.invariant.1 c.import_names.ensures.same) }
+localize-returns t c = record { does = let a = c.args in let g = c.loop-r.invariant.0.on refl c.requires.valid_arrays (going_start c.requires.part c.index_parts-at.ensures c.requires.valid_arrays a.room (ap going c.no_expressions.ensures) c.in_ok-declared.ensures.does refl) in names_whole c.requires.part c.requires.valid_arrays g c.loop-r-test.false c.in_ok-kept.ensures refl c.import_names.ensures.does; same = arrays_then c.in_ok-declared.ensures.same (arrays_then c.loop-r.invariant.1 c.import_names.ensures.same) }

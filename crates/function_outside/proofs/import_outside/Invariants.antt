@@ -1,5 +1,4 @@
 -- What a stretch refers to outside the function: the loop passes one word at a turn.
-use Prim.Native.Nat.{◌-◌}
 use Rattle.function_outside.proofs.Passing.{Passing}
 use Rattle.derive_state.specs.Sizes.{going}
 use Rattle.derive_state.specs.Held.{SameArrays}

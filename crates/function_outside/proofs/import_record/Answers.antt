@@ -1,5 +1,5 @@
 -- `function_outside::import_record` meets its contract: what is mapped is left as it is.
-use Rattle.std.proofs.Common.{◌<◌, refl}
+use Rattle.std.proofs.Common.{refl}
 use native.Mathlib.Omega.{arith}
 use Rattle.derive_imports.proofs.Sources.{small_number}
 use Rattle.derive_state.proofs.State.{arrays_same}

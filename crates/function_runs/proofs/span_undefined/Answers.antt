@@ -1,15 +1,22 @@
 -- `span_undefined` meets its contract: a span is undefined where its start and the word after it are 0.
-use mathlib.Core.Path.{◌∙◌}
+use mathlib.Core.Path.{sym, ap, ◌∙◌}
+use Prim.Native.Nat.{ℕ}
 use lib.ListN.{get_or}
-use Rattle.derive_state.proofs.Classes.{undefined-other, undefined-both}
-use Rattle.function_runs.proofs.Firsts.{first_some, first-none, zero_first}
+use Rattle.model.specs.References.{target, undefined_at}
+use Rattle.derive_state.proofs.Classes.{undefined-other}
+use Rattle.function_runs.proofs.Firsts.{first_some, first-none}
+use Rattle.function_runs.proofs.span_undefined.Goals.{then-s-eq-SPAN+then-i-end, else-s-eq-SPAN, else-s-eq-SPAN-via-then-s-eq-SPAN+else-i-end, else-s-eq-SPAN-via-else-s-eq-SPAN}
 use Rattle.function_runs.proofs.span_undefined.Goals as goal
 
-pub returns-then-image-i-ne-SPAN : goal.returns-then-image-i-ne-SPAN
-returns-then-image-i-ne-SPAN c = let a = c.args in undefined-other (get_or a.image.tags.now a.i 0) (get_or a.image.words.now a.i 0) _ a.u c.if-image-i-ne-SPAN.true
-
-pub returns-then-i-end : goal.returns-then-i-end
-returns-then-i-end c = let a = c.args in let S = c.requires.0 in rw (first_some a.image.tags.now a.image.words.now a.i a.end c.if-i-end.true S.in_tags S.in_words) (undefined-both (get_or a.image.tags.now a.i 0) (get_or a.image.words.now a.i 0) _ a.u c.if-image-i-ne-SPAN.false)
-
 pub returns : goal.returns
-returns c = let a = c.args in zero_first (get_or a.image.words.now a.i 0) _ (first-none a.image.tags.now a.image.words.now a.i a.end c.if-i-end.false) ∙ undefined-both (get_or a.image.tags.now a.i 0) (get_or a.image.words.now a.i 0) _ a.u c.if-image-i-ne-SPAN.false
+returns c =
+    let a = c.args in
+    let S = c.requires.0 in
+    c.undefined_at.ensures
+    ∙ elim c.if-s-eq-SPAN.branch [
+      | then-s-eq-SPAN+then-i-end w ↦ ap (λ (x : ℕ). undefined_at (target (get_or a.image.tags.now a.i 0)) (get_or a.image.words.now a.i 0) x a.u) (w.next-is ∙ first_some a.image.tags.now a.image.words.now a.i a.end w.if-i-end.true S.in_tags S.in_words)
+      | else-s-eq-SPAN w ↦ elim w.else-s-eq-SPAN.branch [
+        | else-s-eq-SPAN-via-then-s-eq-SPAN+else-i-end v ↦ ap (λ (x : ℕ). undefined_at (target (get_or a.image.tags.now a.i 0)) (get_or a.image.words.now a.i 0) x a.u) (w.next-is ∙ first-none a.image.tags.now a.image.words.now a.i a.end v.if-i-end.false)
+        | else-s-eq-SPAN-via-else-s-eq-SPAN v ↦ sym (undefined-other (get_or a.image.tags.now a.i 0) (get_or a.image.words.now a.i 0) _ a.u v.if-s-eq-SPAN.false) ∙ undefined-other (get_or a.image.tags.now a.i 0) (get_or a.image.words.now a.i 0) _ a.u v.if-s-eq-SPAN.false
+      ]
+    ]

@@ -24,11 +24,11 @@ returns-then-count-eq0 c = init-empty _ _ _ _ _ c.requires _ _ refl refl c.if-co
 pub overflow_add-locals : goal.overflow_add-locals
 overflow_add-locals c = omega (arith, init_locals _ _ _ _ _ c.requires)
 
-pub roots-top-requires : goal.roots-top-requires
-roots-top-requires c = record { words_len = c.requires.lists.long.words_long; count_bound = init-count _ _ _ _ _ c.requires _ _ refl refl; room = init-room _ _ _ _ _ c.requires _ _ refl refl (replicate 1024 0) (length-replicate {A = ℕ} 1024 0) }
+pub roots-requires : goal.roots-requires
+roots-requires c = record { words_len = c.requires.lists.long.words_long; locals_bound = init-count _ _ _ _ _ c.requires _ _ refl refl; room = init-room _ _ _ _ _ c.requires _ _ refl refl (replicate 1024 0) (length-replicate {A = ℕ} 1024 0) }
 
-pub returns-then-top-eq0 : goal.returns-then-top-eq0
-returns-then-top-eq0 c = init-none _ _ _ _ _ c.requires _ _ refl refl (replicate 1024 0) (length-replicate {A = ℕ} 1024 0) _ _ _ c.roots-top.ensures c.if-top-eq0.true
+pub returns-then-visited-eq0 : goal.returns-then-visited-eq0
+returns-then-visited-eq0 c = init-none _ _ _ _ _ c.requires _ _ refl refl (replicate 1024 0) (length-replicate {A = ℕ} 1024 0) _ c.roots.ensures c.if-visited-eq0.true
 
 pub overflow_add-exprs : goal.overflow_add-exprs
 overflow_add-exprs c = omega (arith, init_exprs _ _ _ _ _ c.requires)
@@ -37,7 +37,7 @@ pub places-requires : goal.places-requires
 places-requires c = (omega arith, (c.requires.lists.long.tags_long, (init-after _ _ _ _ _ c.requires, (init-end _ _ _ _ _ c.requires, init_few _ _ _ _ _ c.requires _ _ refl refl))))
 
 pub reach-requires : goal.reach-requires
-reach-requires c = init_reach _ _ _ _ _ c.requires _ _ refl refl (replicate 1024 0) (length-replicate {A = ℕ} 1024 0) _ _ _ c.roots-top.ensures _ (found_numbers c.places.ensures)
+reach-requires c = init_reach _ _ _ _ _ c.requires _ _ refl refl (replicate 1024 0) (length-replicate {A = ℕ} 1024 0) _ c.roots.ensures _ (found_numbers c.places.ensures)
 
 pub returns : goal.returns
-returns c = init_done _ _ _ _ _ c.requires _ _ refl refl (replicate 1024 0) (length-replicate {A = ℕ} 1024 0) _ _ _ c.roots-top.ensures _ (found_numbers c.places.ensures) _ _ _ c.reach.ensures
+returns c = init_done _ _ _ _ _ c.requires _ _ refl refl (replicate 1024 0) (length-replicate {A = ℕ} 1024 0) _ c.roots.ensures _ (found_numbers c.places.ensures) _ _ c.reach.ensures

@@ -10,14 +10,14 @@ use Rattle.intake_numbers.proofs.all_functions.Goals as goal
 pub overflow_add-at : goal.overflow_add-at
 overflow_add-at g c =
     let h = framed_small _ _ _ c.requires.tape _ _ c.requires.heads c.loop-i.i (omega (arith, c.loop-i-test.true, c.count-i-end.ensures)) in
-    let l : c.record_at-at.result + c.args.head ≤ 16384 = rw c.record_at-at.ensures h in
+    let l : c.record-at.result.0 + c.args.head ≤ 16384 = rw c.record-at.ensures.0 h in
     search rules
 
 pub returns-then-not-fine : goal.returns-then-not-fine
-returns-then-not-fine g c = c.loop-i.invariant false _ (fails (omega (arith, c.loop-i-test.true, c.count-i-end.ensures)) (tested _ _ c.fine.ensures c.record_at-at.ensures c.record_end.ensures c.if-not-fine.true))
+returns-then-not-fine g c = c.loop-i.invariant false _ (fails (omega (arith, c.loop-i-test.true, c.count-i-end.ensures)) (tested _ _ c.fine.ensures c.record-at.ensures.0 c.record-at.ensures.1 c.if-not-fine.true))
 
 pub loop-i-preserved : goal.loop-i-preserved
-loop-i-preserved g c = λ r s p. c.loop-i.invariant r s (next (omega (arith, c.loop-i-test.true, c.count-i-end.ensures)) (tested _ _ c.fine.ensures c.record_at-at.ensures c.record_end.ensures c.if-not-fine.false) p)
+loop-i-preserved g c = λ r s p. c.loop-i.invariant r s (next (omega (arith, c.loop-i-test.true, c.count-i-end.ensures)) (tested _ _ c.fine.ensures c.record-at.ensures.0 c.record-at.ensures.1 c.if-not-fine.false) p)
 
 pub returns : goal.returns
 returns g c = c.loop-i.invariant true _ (done (omega (arith, c.loop-i-test.false, c.count-i-end.ensures)))

@@ -1,24 +1,29 @@
-use Rattle.redirect_words.proofs.Finding.{lists_in, in_a, in_b, agree_not, agree-next, agree_done}
-use borrow.Author.Rules.{rules}
+-- `redirect_words::arguments_agree` meets its contract: each argument of the shorter list has the type of the other's.
+use mathlib.Core.Path.{refl}
+use native.Mathlib.Omega.{arith}
+use borrow.Author.Tests.{tests}
+use Rattle.std.proofs.Common.{rules}
+use Rattle.std.proofs.lemmas.Iterator.{YieldsList-from_range, serves_from_Range}
+use Rattle.std.proofs.lemmas.Iterator.Search.{all_from_yields_List}
+use Rattle.redirect_words.proofs.Finding.{lists_in, same_type, in_a, in_b, agrees}
 use Rattle.redirect_words.proofs.arguments_agree.Goals as goal
 
 pub arguments-requires : goal.arguments-requires
-arguments-requires c = search (lists_in, rules)
+arguments-requires c = lists_in _ _ _ _ c.requires.tape c.requires.original_bound.0 _ c.start-a.ensures
 
 pub arguments-requires-2 : goal.arguments-requires-2
-arguments-requires-2 c = search (lists_in, rules)
+arguments-requires-2 c = lists_in _ _ _ _ c.requires.tape c.requires.original_bound.1 _ c.start-b.ensures
 
-pub type_at-requires : goal.type_at-requires
-type_at-requires c = search (in_a, rules)
-
-pub type_at-requires-in-loop-j : goal.type_at-requires-in-loop-j
-type_at-requires-in-loop-j c = search (in_b, rules)
-
-pub returns-then-type_at : goal.returns-then-type_at
-returns-then-type_at c = search (agree_not, rules)
-
-pub loop-j-preserved : goal.loop-j-preserved
-loop-j-preserved c = search (agree-next, rules)
+pub all-requires-clause-callable : goal.all-requires-clause-callable
+all-requires-clause-callable c =
+    serves_from_Range (λ x q k. search rules) (λ x _ less.
+    let u = in_a c.args.image.words.now c.args.image.tags.now c.args.image.n c.args.original.0 c.args.replacement.0 c.requires.tape c.requires.original_bound.0 c.requires.original_bound.1 c.start-a.result c.start-b.result c.start-a.ensures c.start-b.ensures _ _ c.arguments.ensures.0 c.arguments-2.ensures.0 c.min-shorter.result c.min-shorter.ensures x less in
+    let v = in_b c.args.image.words.now c.args.image.tags.now c.args.image.n c.args.original.0 c.args.replacement.0 c.requires.tape c.requires.original_bound.0 c.requires.original_bound.1 c.start-a.result c.start-b.result c.start-a.ensures c.start-b.ensures _ _ c.arguments.ensures.0 c.arguments-2.ensures.0 c.min-shorter.result c.min-shorter.ensures x less in
+    (λ _ _ _ _ _ _ _. u, λ _ _ _ _ _ _ _ _ _. v))
 
 pub returns : goal.returns
-returns c = search (agree_done, rules)
+returns c =
+    let a = c.args in
+    let test = same_type a.image.words.now a.image.tags.now a.image.n a.original.0 a.replacement.0 c.requires.tape c.requires.original_bound.0 c.requires.original_bound.1 c.start-a.result c.start-b.result c.start-a.ensures c.start-b.ensures in
+    agrees a.image.words.now a.image.tags.now a.image.n a.original.0 a.replacement.0 c.requires.tape c.requires.original_bound.0 c.requires.original_bound.1 c.start-a.result c.start-b.result c.start-a.ensures c.start-b.ensures _ _ c.arguments.ensures.0 c.arguments-2.ensures.0 c.min-shorter.result c.min-shorter.ensures c.all.result
+    (all_from_yields_List test _ _ c.all.result c.all.ensures.ran (YieldsList-from_range 0 c.min-shorter.result c.min-shorter.result refl (omega arith)) (λ x b q k. search (rules, tests)))

@@ -1,18 +1,16 @@
-use Rattle.redirect_words.proofs.Finding.{seek_at, seek_fits, seek_here, seek_on, seek_none}
-use borrow.Author.Rules.{rules}
+-- `redirect_words::find` meets its contract: the first function with the name is the library's search.
+use mathlib.Core.Path.{refl}
+use native.Mathlib.Omega.{arith}
+use borrow.Author.Tests.{tests}
+use Rattle.std.proofs.Common.{rules}
+use Rattle.std.proofs.lemmas.Iterator.{YieldsList-from_range}
+use Rattle.std.proofs.lemmas.Iterator.Search.{find_from_yields_List}
+use Rattle.redirect_words.proofs.Finding.{has_name, finds}
 use Rattle.redirect_words.proofs.find.Goals as goal
 
-pub offset_bounds-image-at : goal.offset_bounds-image-at
-offset_bounds-image-at c = search (seek_fits, rules)
-
-pub bounds-image-at : goal.bounds-image-at
-bounds-image-at c = search (seek_at, rules)
-
-pub returns-then-is_named : goal.returns-then-is_named
-returns-then-is_named c = search (seek_here, rules)
-
-pub loop-j-preserved : goal.loop-j-preserved
-loop-j-preserved c = search (seek_on, rules)
-
 pub returns : goal.returns
-returns c = search (seek_none, rules)
+returns c =
+    let a = c.args in
+    let words = a.image.words.now in
+    let test = has_name words a.image.tags.now a.image.n a.name in
+    finds words a.image.tags.now a.image.n a.name c.count.result c.count.ensures.0 c.find.result (find_from_yields_List test _ _ c.find.result c.find.ensures.ran (YieldsList-from_range 0 c.count.result c.count.result refl (omega arith)) (λ x b q k. search (rules, tests))) c.map.result _ c.map.ensures.cases (λ j h p. search rules)

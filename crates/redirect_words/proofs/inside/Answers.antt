@@ -5,10 +5,10 @@ use lib.Dec.{ltb}
 use Rattle.redirect_words.proofs.Lists.{inside-not, inside-rest}
 use Rattle.redirect_words.proofs.inside.Goals as goal
 
-pub returns-then-replacement-names : goal.returns-then-replacement-names
-returns-then-replacement-names c =
-    inside-rest _ _ _ _ _ c.if-replacement-names.true.0 c.if-replacement-names.true.1
-    (all_from_yields_List (λ x. ltb x c.args.names) _ _ c.all.result c.all.ensures.ran (YieldsList-from_slice c.args.omit.now cc) (λ x b q k. search (rules, tests)))
+pub returns-then-request-names-2 : goal.returns-then-request-names-2
+returns-then-request-names-2 c =
+    inside-rest _ _ _ _ _ c.if-request-names-2.true.0 c.if-request-names-2.true.1
+    (all_from_yields_List (λ x. ltb x c.args.names) _ _ c.all.result c.all.ensures.ran (YieldsList-from_slice c.args.request.omit.now cc) (λ x b q k. search (rules, tests)))
 
-pub returns-else-replacement-names : goal.returns-else-replacement-names
-returns-else-replacement-names c = inside-not _ _ _ _ c.if-replacement-names.either _ (search rules)
+pub returns-else-request-names-2 : goal.returns-else-request-names-2
+returns-else-request-names-2 c = inside-not _ _ _ _ c.if-request-names-2.either _ (search rules)

@@ -3,4 +3,4 @@ use mathlib.Core.Path.{refl}
 use Rattle.session_operations.proofs.renew.Goals as goal
 
 pub returns : goal.returns
-returns c = rw (c.clear_maps.ensures, c.empty-session.ensures) refl
+returns c = rw (c.clear_maps.ensures, c.clear_rays.ensures, c.empty-session.ensures) refl

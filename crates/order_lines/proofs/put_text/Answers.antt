@@ -1,7 +1,0 @@
-use mathlib.Core.Path.{refl}
-use native.Mathlib.Omega.{arith}
-use Rattle.order_lines.proofs.Bytes.{puts_at}
-use Rattle.order_lines.proofs.put_text.Goals as goal
-
-pub returns : goal.returns
-returns c = puts_at _ _ _ _ _ refl c.copy_from_slice.ensures.after (omega (arith, c.requires.out_len, c.requires.text_bound))
