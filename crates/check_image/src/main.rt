@@ -4,9 +4,7 @@
 
 // The answer for an image.
 fn answer(rt: &(impl Print + Eprint), image: &[u8]) {
-    let mut words = [0; 16384];
-    let mut tags = [0; 16384];
-    match intake::take_in(image, &mut words, &mut tags) {
+    match intake::intake(image) {
         Ok(_) => program_streams::write(rt, "check_image", b"accepted\n"),
         Err(refusal) => {
             let number = refusal.number();

@@ -20,7 +20,7 @@ use derive_state::Derived;
 pub struct Met {
     // Their numbers, in the order of first appearance; what stands after `count` of them is not read.
     pub order: [u32; 512],
-    // For each name the word by which it will be written, and 0 while it is not met.
+    // For each name the word by which it will be written, its new number plus 1, and 0 while it is not met: words are written from here as they are.
     pub places: [u32; 512],
     // How many they are.
     pub count: usize,

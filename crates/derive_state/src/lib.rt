@@ -41,7 +41,8 @@ pub type Buckets = [u16; 16384];
 // Functions under construction.
 pub type StackRows = [[u32; 16384]; 4];
 
-// The expressions of a function by their source numbers.
+// The expressions of a function by their source numbers: derived numbers plus 1, and 0 where one is not mapped, as in `Maps`: what refers to an optional expression
+// takes such a number as it is, and clearing makes them 0. `Option<u16>` in the array would be twice as large, and be cleared number by number.
 pub type ExprMap = [u16; 1024];
 
 // Where the expressions of a source's function start.

@@ -18,7 +18,8 @@ struct KeyedType {
     number: u32,
 }
 
-// The optional types, each 0 or its number plus 1, and the pairs; how many pairs there are is among the sizes.
+// The optional types, each 0 or its number plus 1, and the pairs. An optional type is the word that a map has for it and that the section is written with, both
+// as it is. How many pairs there are is among the sizes, which go by value, so that what is refused leaves it as it was.
 #[derive(Clone, Copy)]
 pub struct Special {
     rays: [u32; 3],

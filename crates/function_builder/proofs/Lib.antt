@@ -7,3 +7,4 @@ pub mod Went
 pub mod Growth
 pub mod Then
 pub mod Appends
+pub mod Differs

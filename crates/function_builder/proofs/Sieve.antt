@@ -1,13 +1,16 @@
 -- Finding an expression on the stack that equals a record: most differ from it in their lengths, or in one word of the record.
 use mathlib.Core.Path.{◌≡◌, refl, sym, ◌∙◌}
-use mathlib.Core.Bool.{Bool, true, false, ◌||◌}
+use mathlib.Core.Bool.{Bool, true, false, true≢false, ◌||◌, ◌&&◌}
 use mathlib.Core.List.{List, []}
 use Prim.Native.Nat.{ℕ, zero, suc, ◌+◌, ◌-◌, ◌≤◌, ◌<◌}
 use native.Mathlib.Nat.{le_refl, le_of_lt}
 use native.Mathlib.Omega.{arith}
 use lib.Dec.{eqb, ltb}
 use lib.ListN.{length, get_or, drop}
-use borrow.Author.Tests.{ltb-true, ltb-false, eqb-true, eqb-false}
+use borrow.Author.Tests.{ltb-true, ltb-false, eqb-true, eqb-false, lt-ltb, eq-eqb}
+use Rattle.std.specs.Prelude.{Option, None, Some, MatchOption, cond}
+use Rattle.std.specs.Option.{option_map}
+use Rattle.std.specs.List.{find, range_with_len}
 use Rattle.model.specs.Outcome.{Cells}
 use Rattle.model.specs.Between.{between}
 use Rattle.model.specs.References.{Place, target, ref_of, through, alike_c, alike, index_of}
@@ -50,6 +53,29 @@ module _ (stacks : List (List ℕ)) (e₁ made i s y k : ℕ) where
 
       pub hop_next : j < made → Hops stacks e₁ made i s y k (j + 1)
       hop_next h = record { low = let l = H.low in omega arith; high = omega arith; not = λ x l u c v. hop_at x l u (ltb x j) refl c v }
+
+-- ---- the first expression that has the word in place i, as the library's search finds it
+module _ (stacks : List (List ℕ)) (e₁ made i s y k : ℕ) (n : (eqb s 81 || eqb s 82) ≡ false) where
+  abbrev pub has_word : ℕ → Bool
+  has_word h = ltb (cell stacks 2 (e₁ + h) + i) 16384 && eqb (cell stacks 0 (cell stacks 2 (e₁ + h) + i)) y
+
+  abbrev pub IsCandidate : Option ℕ → Type 0
+  IsCandidate r = MatchOption r (Hops stacks e₁ made i s y k made) (λ j. (j < made) × Hops stacks e₁ made i s y k j)
+
+  sought : (d j : ℕ) → made ≡ j + d → Hops stacks e₁ made i s y k j → IsCandidate (find has_word (range_with_len j d))
+  sought zero j e H = hop_last stacks e₁ made i s y k j H (omega arith)
+  sought (suc d) j e H = go (has_word j) refl (λ U. sought d (j + 1) (omega arith) U)
+    where
+      other : has_word j ≡ false → cell stacks 2 (e₁ + j) + i < 16384 → cell stacks 0 (cell stacks 2 (e₁ + j) + i) ≡ y → ⊥
+      other q v z = true≢false (rw (lt-ltb (cell stacks 2 (e₁ + j) + i) 16384 v, eq-eqb (cell stacks 0 (cell stacks 2 (e₁ + j) + i)) y z) at q)
+
+      go : (b : Bool) → has_word j ≡ b → (Hops stacks e₁ made i s y k (j + 1) → IsCandidate (find has_word (range_with_len (j + 1) d))) → IsCandidate (cond b (Some j) (find has_word (range_with_len (j + 1) d)))
+      go true q rest = (omega arith, H)
+      go false q rest = rest (hop_next stacks e₁ made i s y k j H n (cell stacks 2 (e₁ + j)) refl (other q) (omega arith))
+
+  pub is_candidate : k ≤ made → (r : Option ℕ) → option_map (λ x. x) r ≡ find has_word (range_with_len k (made - k)) → IsCandidate r
+  is_candidate h None e = rw (← e) at (sought (made - k) k (omega arith) (hop_none stacks e₁ made i s y k h))
+  is_candidate h (Some x) e = rw (← e) at (sought (made - k) k (omega arith) (hop_none stacks e₁ made i s y k h))
 
 -- ---- what is left from expression k on is the whole; the record's word at p becomes y
 pub record Sieving (words tags : List ℕ) (went : Place → ℕ → ℕ) (at end : ℕ) (stacks : List (List ℕ)) (e₁ : ℕ) (e : Sizes) (k p y : ℕ) : Type 0 where

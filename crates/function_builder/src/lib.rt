@@ -40,7 +40,8 @@ pub const BODY: usize = 3;
 
 // A function of a source that is imported: where each of its expressions starts in the image and where the last one ends, and how many there are; and where the
 // derived ones start on the stack, by their places. What is written of it, `exprmap` and the stacks, stays two parameters: the map is read without the stacks
-// wherever a word is carried, and the stacks, which all functions in progress share, are written without a map.
+// wherever a word is carried, and the stacks, which all functions in progress share, are written without a map. One struct of both and of `derived` would have a
+// struct of mutable borrows in it, and two fields of a struct in a struct cannot be lent at once (docs/DESIGN-PASS.md, "Tried and learnt").
 #[derive(Clone, Copy)]
 pub struct ShaderFunction<'a, 'p> {
     pub source: ShaderSource<'a>,
@@ -63,7 +64,7 @@ pub fn by_maps(maps: &Maps, exprmap: &ExprMap, s: u8, w: u32) -> u32
     }
 }
 
-// A word carried through the maps, or to the function of its name.
+// A word carried through the maps, or to the function of its name: to 0 where no derived function has it, as the model carries what is not mapped.
 pub fn carried(image: Image, derived: &Derived, exprmap: &ExprMap, s: u8, w: u32) -> u32
     requires ground { Ground image.words.now image.tags.now image.n }
     requires bearing { Bearing derived.now.log.now derived.now.logtags.now derived.now.starts.now (going derived.now.sizes) }
@@ -168,15 +169,12 @@ fn first_difference(
     requires stacks { (Stacks stacks.now (going derived.now.sizes)) × (a ≤ b) × (b ≤ 16384) × (b - a ≡ end - at) }
     ensures { MatchOption result (true ≡ alike (between (row stacks.now 1) (row stacks.now 0) a b) (carried_by (went_of image.entry.words.now image.entry.n derived.now.log.now derived.now.logtags.now derived.now.starts.now derived.now.maps.now (going derived.now.sizes) exprmap.now) image.entry.tags.now image.entry.words.now at end)) (λ p. (at ≤ p) × (p < end) × (false ≡ alike (between (row stacks.now 1) (row stacks.now 0) a b) (carried_by (went_of image.entry.words.now image.entry.n derived.now.log.now derived.now.logtags.now derived.now.starts.now derived.now.maps.now (going derived.now.sizes) exprmap.now) image.entry.tags.now image.entry.words.now at end))) }
 {
-    for j in at..end {
-        let q = a + (j - at);
-        let s = image.tags[j];
-        let y = carried(image, derived, exprmap, s, image.words[j]);
-        if !alike_cell(stacks[CLASSES][q], stacks[WORDS][q], s, y) {
-            return Some(j);
-        }
-    }
-    None
+    (at..end).find(|j| {
+        let q = a + (*j - at);
+        let s = image.tags[*j];
+        let y = carried(image, derived, exprmap, s, image.words[*j]);
+        !alike_cell(stacks[CLASSES][q], stacks[WORDS][q], s, y)
+    })
 }
 
 // Where expression k of those on the stack ends.
@@ -206,13 +204,10 @@ fn next_candidate(
     if is_span(s) {
         return Some(k);
     }
-    for h in k..made {
-        let q = stacks[SEATS][e1 + h] as usize + i;
-        if q < 16384 && stacks[WORDS][q] == y {
-            return Some(h);
-        }
-    }
-    None
+    (k..made).find(|h| {
+        let q = stacks[SEATS][e1 + *h] as usize + i;
+        q < 16384 && stacks[WORDS][q] == y
+    })
 }
 
 // The first expression that equals, ignoring spans, what the source's words become. Most of the others differ in one word: the last, or the one in which another

@@ -71,6 +71,7 @@ pub fn enter(
 }
 
 // Imports the source's entry points, from the first on.
+// `special` is for the contract alone. No ghost value takes its place: a caller has to pick that from the call's other arguments, and none of them has the special types.
 pub fn enter_all(
     source: ShaderSource,
     derived: &mut DerivedMut,

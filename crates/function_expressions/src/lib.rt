@@ -20,8 +20,8 @@ use derive_state::{DerivedMut, ExprMap, Full, Places, ShaderSource, Sizes, Stack
 use function_builder::{ShaderFunction, append};
 use function_outside::{Referent, import_outside, import_record, referent_of};
 
-// Imports expression e of k, which is not mapped, with what it refers to outside the function.
-fn import_unmapped(
+// Imports expression e, unless it is mapped, with what it refers to outside the function.
+pub fn import_operand(
     function: ShaderFunction,
     derived: &mut DerivedMut,
     exprmap: &mut ExprMap,
@@ -43,28 +43,6 @@ fn import_unmapped(
     let end = function.places[e + 1] as usize;
     let got = import_outside(function.source, derived, ends, at, end)?;
     append(function, &derived.view(got), exprmap, stacks, e)
-}
-
-// The same, but tests first whether e is mapped: it is called for every operand and is small, since most are mapped.
-pub fn import_operand(
-    function: ShaderFunction,
-    derived: &mut DerivedMut,
-    exprmap: &mut ExprMap,
-    stacks: &mut StackRows,
-    ends: Sizes,
-    e: usize,
-) -> Result<Sizes, Full>
-    requires ground { Ground function.source.image.words.now function.source.image.tags.now function.source.image.n }
-    requires expressions { Expressions function.source.image.words.now function.source.image.tags.now function.places.now function.count }
-    requires e_lt_k { e < function.count }
-    requires valid_arrays { Valid derived.old ends }
-    requires under { Under function.count exprmap.old stacks.old function.base (going ends) }
-    ensures { Builds function.entry.source.image.words.now function.entry.count (needE function.entry.source.offset (mod_of function.entry.source.image.words.now function.entry.source.image.n) still (exprs_of function.entry.source.image.words.now function.entry.source.image.tags.now function.entry.places.now function.entry.count) e) derived.old exprmap.old stacks.old function.entry.base ends result derived.new exprmap.new stacks.new }
-{
-    if exprmap[e] != 0 {
-        return Ok(ends);
-    }
-    import_unmapped(function, derived, exprmap, stacks, ends, e)
 }
 
 // Whether expression e is not mapped and is standing. Most are mapped.
@@ -108,7 +86,7 @@ pub fn import_standing(
             Some(Referent::Own(n)) => {
                 let x = n as usize;
                 if is_unmapped_standing(function.source.image.words, function.places, exprmap, x) {
-                    got = import_unmapped(function, derived, exprmap, stacks, got, x)?;
+                    got = import_operand(function, derived, exprmap, stacks, got, x)?;
                 }
             }
         }

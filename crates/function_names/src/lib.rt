@@ -17,7 +17,8 @@ use derive_state::{DerivedMut, ExprMap, Full, ShaderSource, Sizes, StackRows};
 use function_builder::{BODY, push};
 
 // The named expressions that stay, of those whose count is word `at`, each with its name's word in the source: the last name counts, in the first's place.
-// `seats` is scratch memory that the caller provides: nothing is required of it before or promised after.
+// `seats` is scratch memory that the caller provides: nothing is required of it before or promised after. A seat is the number of a name that stays plus 1, and 0 for
+// none: the memory is that of the caller's places, which are numbers, and clearing makes them 0.
 pub fn keep_names(
     words: &Words,
     exprmap: &ExprMap,

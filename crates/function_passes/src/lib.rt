@@ -145,14 +145,9 @@ fn compare_operand(image: Image, i: usize, end: usize) -> Option<u32>
     requires { Stretch image.words.now image.tags.now i end }
     ensures { compared result ≡ compares_of (between image.entry.tags.now image.entry.words.now (i) end) }
 {
-    for j in i..end {
-        if image.tags[j] == ATOMIC {
-            let k = j + 1;
-            if k < end && image.tags[k] == OPT_EXPR {
-                return image.words[k].checked_sub(1);
-            }
-            return None;
-        }
+    let k = (i..end).find(|j| image.tags[*j] == ATOMIC)? + 1;
+    if k < end && image.tags[k] == OPT_EXPR {
+        return image.words[k].checked_sub(1);
     }
     None
 }

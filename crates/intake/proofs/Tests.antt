@@ -6,6 +6,7 @@ use Prim.Native.Nat.{ℕ}
 use native.Mathlib.Omega.{arith}
 use lib.ListN.{length}
 use borrow.Author.Tests.{not-true, not-false}
+use Rattle.base_words.specs.Words.{words_of}
 use Rattle.model.specs.Module.{Module}
 use Rattle.model.specs.Taped.{Taped, Tape}
 use Rattle.model.specs.Numbers.{numbered}
@@ -118,6 +119,9 @@ module _ (bytes words tags words₁ tags₁ : List ℕ) (words_long : length wor
           };
         }
 
-pub answer_so : (bytes words tags : List ℕ) (q : Result ℕ Refusal) (r : ℕ) → TakeInEnsures q words tags bytes → r ≡ number_of q → IntakeEnsures r bytes
+pub answer_so : (bytes words tags : List ℕ) (q : Result ℕ Refusal) → TakeInEnsures q words tags bytes → IntakeEnsures (number_of q) bytes
 unfolding wuldgisp_intake
-answer_so bytes words tags q r t e = record { answer = e ∙ t.same }
+answer_so bytes words tags q t = record { answer = t.same }
+
+pub many_so : (bytes words tags : List ℕ) (q : Result ℕ Refusal) → TakeInEnsures q words tags bytes → (n : ℕ) → q ≡ Ok n → n ≡ length (words_of bytes)
+many_so bytes words tags q t n e = (t.held n e).long

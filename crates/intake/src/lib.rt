@@ -1,10 +1,11 @@
 // Intake: the six tests of an image in sequence, on any bytes. Every exported function begins with it.
 #![tactic(auto)]
 
-ghost use Rattle.std.specs.Prelude.{◌≡◌, length};
+ghost use Rattle.std.specs.Prelude.{◌≡◌, ℕ, Ok, length};
+ghost use Rattle.base_words.specs.Words.{words_of};
 ghost use Rattle.model.specs.Taped.{Tape};
 ghost use Rattle.model.specs.Image.{IntakeEnsures};
-ghost use Rattle.intake.specs.Taken.{Tested, TakeInEnsures};
+ghost use Rattle.intake.specs.Taken.{number_of, Tested, TakeInEnsures};
 
 use base_refusals::Refusal;
 use base_views::Image;
@@ -41,14 +42,12 @@ pub fn take_in(image: &[u8], words: &mut Words, tags: &mut Tags) -> Result<usize
     test(Image { words, tags, n })
 }
 
-// Intake's number for an image: 0 if it is accepted, else that of the refusal.
-pub fn intake(image: &[u8]) -> u32
-    ensures { IntakeEnsures result image.now }
+// The same where nobody needs what words and tags hold: the image's count of words, or the refusal.
+pub fn intake(image: &[u8]) -> Result<usize, Refusal>
+    ensures answer { IntakeEnsures (number_of result) image.now }
+    ensures many { (n : ℕ) → result ≡ Ok n → n ≡ length (words_of image.now) }
 {
     let mut words = [0; 16384];
     let mut tags = [0; 16384];
-    match take_in(image, &mut words, &mut tags) {
-        Ok(_) => 0,
-        Err(refusal) => refusal.number(),
-    }
+    take_in(image, &mut words, &mut tags)
 }

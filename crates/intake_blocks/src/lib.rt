@@ -65,7 +65,8 @@ fn skip(words: &Words, at: usize) -> usize
     i
 }
 
-// A statement with blocks that is no Loop: its reads, and its blocks.
+// A statement with blocks that is no Loop: its reads, and its blocks. Here and in `looped` the contract alone speaks of `keep`, which is no ghost: a function with
+// a ghost clause that is in a cycle of calls gets no generated proof.
 #[cycle(block_looped_parts_stmt)]
 fn parts(
     expressions: Expressions,

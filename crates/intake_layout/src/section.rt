@@ -1,5 +1,8 @@
 // Laying out the header and the sections: each record has its extent, and each section its place. A misfit ends it at once; a code that is none of the listed
 // is remembered, since a misfit after it is what is told. Words and tags are two parameters, as in intake_fields, which says why.
+//
+// The loop that remembers stands twice, in `records` and in `sections`. One for both would take a turn as a closure that writes `tags`, with what `record` and
+// `section` require said again, and would hand out `odd`, since each has one more test after its loop, whose misfit is told first: no plainer.
 ghost use Rattle.std.specs.Prelude.{◌≡◌, true, ◌+◌, ◌-◌, ◌*◌, ◌^◌, ◌≤◌, ◌<◌, length, take, get_or};
 ghost use Rattle.std.proofs.Math.Seq.{slice};
 ghost use Rattle.model.specs.Module.{limits, placed as placed_of, end_at, next};

@@ -46,7 +46,8 @@ fn scoped(image: Image, scratch: &mut Scratch, locals: usize, exprs: usize, end:
     body(expressions, until, at, end)
 }
 
-// The same of the record from `at` to `end` whose function starts at `from`.
+// The same of the record from `at` to `end` whose function starts at `from`. The contract alone speaks of `at`, which is no ghost: the call is in a closure, and
+// there the borrow checker covers no choice of a ghost value.
 fn function(image: Image, scratch: &mut Scratch, at: usize, from: usize, end: usize) -> bool
     requires { Stated image.words.now image.tags.now at from end }
     ensures { Scoped result image.entry.words.now image.entry.tags.now at from end }

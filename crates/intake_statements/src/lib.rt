@@ -1,7 +1,9 @@
 // What a statement without blocks reads and evaluates. For each expression there is the word up to which it is in scope: 0 while it is not evaluated, and 1,
 // which no statement lies before, for an initialiser expression.
 //
-// That table, `until`, holds numbers and no enum: `at < until[e]` needs no case of its own for 0 and 1, and an enum would take twice the memory.
+// That table, `until`, holds numbers and no enum: `at < until[e]` needs no case of its own for 0 and 1, and an enum would take twice the memory. It stands apart
+// from `expressions`, with which it goes from function to function, since it is written, and they are shared references that are read at the same time and go by
+// copy. A struct of both would be behind a `&mut`, and be lent whole where only the expressions are needed, as in `kind` and `result_fits`.
 #![tactic(auto)]
 
 ghost use Rattle.std.specs.Prelude.{◌≡◌, [], ◌+◌, ◌≤◌, ◌<◌, get_or};
@@ -100,6 +102,7 @@ pub fn emit(expressions: Expressions, until: &mut [usize; 1024], at: usize, keep
     requires at_bound_2 { get_or expressions.image.words.now (at + 5) 0 ≤ expressions.count }
     ensures { FoundR expressions.entry.image.words.now expressions.entry.image.tags.now expressions.entry.starts.now expressions.entry.initial.now expressions.entry.count at keep (get_or expressions.entry.image.words.now (at + 4) 0) (get_or expressions.entry.image.words.now (at + 5) 0) until.old until.new result }
 {
+    // a loop: each turn writes `until`, and the closure of an `all` would have to say again what `evaluated` requires
     for e in expressions.image.words[at + 4] as usize..expressions.image.words[at + 5] as usize {
         if !evaluated(expressions, until, at, keep, e) {
             return false;
@@ -113,6 +116,7 @@ fn result_of(image: Image, from: usize, to: usize) -> Option<u32>
     requires { to ≤ 16384 }
     ensures { result ≡ option_of (result_of (cells_in image.entry.words.now image.entry.tags.now from to)) }
 {
+    // no chain: the tag that ends the loop says which answer it is, and after a `find` it would have to be asked again
     for j in from..to {
         match image.tags[j] {
             RESULT => return Some(image.words[j]),

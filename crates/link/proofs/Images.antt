@@ -27,7 +27,7 @@ use Rattle.std.specs.Prelude.{Ok, Err}
 use Rattle.base_refusals.specs.declared.Refusal.{Refusal}
 use Rattle.intake.proofs.Refusals.{refused_by, answered}
 use Rattle.derive_imports.proofs.Sources.{mod_is, source_of}
-use Rattle.order_bytes.proofs.Images.{list_long, list_asks}
+use Rattle.order_bytes.proofs.Images.{count_few, list_long, list_asks}
 use Rattle.theory_link.specs.Demand.{Linking}
 use Rattle.theory_link.proofs.OnBytes.{whole_words, not_taken, too_short}
 use Rattle.derive_state.specs.Source.{mod_of}
@@ -92,7 +92,7 @@ module _ (image words tags : List ℕ) where
             record {
               source_is = source_of held.taped held.passes.numbers held.passes.lowers;
               linking = subst (λ (ws : List ℕ). Linking ws (length output) (mod_of words n)) (sym words_are) (record { passes = subst (λ (k : ℕ). intake_of k (words_of image) ≡ 0) (whole_words image accepted) accepted; reads = reads; roomy = omega (arith, whole_words image accepted, h) });
-              sequence = record { is = ordered_so; counts = refl; long = list_long words tags n order_asks.0 order₀ order a o q long };
+              sequence = record { is = ordered_so; counts = refl; long = omega (arith, list_long words tags n order_asks.0 order₀ order a o q long, count_few words tags n order_asks.0 (count_at 6 words) refl) };
             }
 
         pub by_tells : (output₀ : List ℕ) → length image ≤ length output₀ → (r : ℕ) (output : List ℕ) → LinkInOrderEnsures words n order output₀ r output → LinkEnsures r output₀ output image

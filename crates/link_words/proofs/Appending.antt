@@ -6,9 +6,10 @@ use mathlib.Core.Option.{some}
 use Prim.Native.Nat.{ℕ, suc, ◌+◌, ◌<◌, ◌≤◌}
 use native.Mathlib.Omega.{arith}
 use lib.ListN.{length, get_or, take}
-use lib.Seq.{slice, slice-cons, slice_empty}
+use lib.Seq.{slice, slice-cons, slice_empty, take-length, length-take-le}
 use Rattle.model.specs.Module.{Module, count_at}
 use Rattle.model.specs.Tables.{types, count}
+use Rattle.model.specs.Calls.{ordered}
 use Rattle.model.specs.Callees.{callees}
 use Rattle.model.specs.Redirect.{function}
 use Rattle.model.specs.Imports.{Derived}
@@ -23,7 +24,6 @@ use Rattle.theory_sessions.specs.Holding.{function-next}
 use Rattle.derive_limits.specs.Reached.{Reached, At}
 use Rattle.derive_limits.proofs.Reached.{function-at}
 use Rattle.function_nesting.specs.Nested.{append_s, follow_s, ReadyF, Ready}
-use Rattle.order_callees.proofs.Whole.{few}
 use Rattle.derive_state.specs.Refers.{tab_of}
 use Rattle.derive_state.specs.Source.{mod_of}
 use Rattle.derive_state.specs.Held.{table_of, st_of, size_r, Over, ValidArrays}
@@ -142,16 +142,13 @@ pub record Turn (words tags : List ℕ) (n : ℕ) (order : List ℕ) (all : ℕ)
 
 module _ (words tags : List ℕ) (n : ℕ) (order : List ℕ) (all : ℕ) (S : Sequence words n order all) where
   module _ (log logtags : List ℕ) (starts maps : List (List ℕ)) (buckets special : List ℕ) (stacks : List (List ℕ)) (e : Sizes) (L : ValidSession true n 0 words tags log logtags starts maps buckets special e) where
-    pub few_all : all ≤ 256
-    few_all = omega (arith, S.counts, functions_are n 0 words tags log logtags starts maps buckets special e L, few (L.taped refl))
-
     pub turn-first : Stacks stacks e → Roomy (mod_of words n) (take all order) (st_of words log logtags starts maps special e) → Turn words tags n order all (append_all (take all order) 0 (mod_of words n) (st_of words log logtags starts maps special e)) 0 log logtags starts maps buckets special stacks e
     turn-first K R = record { upto = omega arith; live = L; stacks_are = K; roomy = R; left = refl }
 
   module _ (whole : Derived) (i : ℕ) (log₀ logtags₀ : List ℕ) (starts₀ maps₀ : List (List ℕ)) (buckets₀ special : List ℕ) (stacks₀ : List (List ℕ)) (e : Sizes) (A : Turn words tags n order all whole i log₀ logtags₀ starts₀ maps₀ buckets₀ special stacks₀ e) where
     module _ (go : i < all) (f : ℕ) (fs : f ≡ get_or order i 0) where
       cons : slice i all order ≡ f ∷ slice (suc i) all order
-      cons = slice-cons i all order 0 go (omega (arith, few_all log₀ logtags₀ starts₀ maps₀ buckets₀ special stacks₀ e A.live, S.long)) ∙ ap (λ (k : ℕ). k ∷ slice (suc i) all order) (sym fs)
+      cons = slice-cons i all order 0 go (omega (arith, S.long)) ∙ ap (λ (k : ℕ). k ∷ slice (suc i) all order) (sym fs)
 
       roomy_cons : Roomy (mod_of words n) (f ∷ slice (suc i) all order) (st_of words log₀ logtags₀ starts₀ maps₀ special e)
       roomy_cons = subst (λ (l : List ℕ). Roomy (mod_of words n) l (st_of words log₀ logtags₀ starts₀ maps₀ special e)) cons A.roomy
@@ -185,3 +182,7 @@ module _ (words tags : List ℕ) (n : ℕ) (order : List ℕ) (all : ℕ) (S : S
           live = A.live;
           stacks_are = A.stacks_are;
         }
+
+-- ---- a part of an order as a list of its own
+pub seq_taken : (words : List ℕ) (n : ℕ) (order : List ℕ) (all : ℕ) → Sequence words n order all → Sequence words n (take all order) (length (take all order))
+seq_taken words n order all S = record { is = S.is ∙ sym (ap ordered (take-length (take all order))); counts = length-take-le all order S.long ∙ S.counts; long = omega arith }

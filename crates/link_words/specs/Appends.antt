@@ -1,5 +1,5 @@
 -- Linking in an order: what appending all functions in output order leaves of a valid session, and what is answered. No import makes the session too large.
-use Rattle.std.specs.Prelude.{◌≡◌, true, List, [], ◌∷◌, ℕ, ◌<◌, length, take, Result}
+use Rattle.std.specs.Prelude.{◌≡◌, true, List, [], ◌∷◌, ℕ, ◌<◌, ◌≤◌, length, take, Result}
 use Rattle.std.proofs.lemmas.List.Edits.{sets}
 use Rattle.base_words.specs.Words.{bytes_of}
 use Rattle.model.specs.Module.{Module, count_at, write}
@@ -28,7 +28,7 @@ Roomy m (i ∷ is) s = (i < length m.functions) × (Over 0 (append 0 m (follow 0
 pub record Sequence (words : List ℕ) (n : ℕ) (order : List ℕ) (all : ℕ) : Type 0 where
   pub is : order_of (mod_of words n) ≡ ordered (take all order)
   pub counts : all ≡ count_at 6 words
-  pub long : length order ≡ 256
+  pub long : all ≤ length order
 
 -- these functions are appended, and the session is valid: never full
 pub record AppendAllEnsures (words tags : List ℕ) (n : ℕ) (is log₀ logtags₀ : List ℕ) (starts₀ maps₀ : List (List ℕ)) (e : Sizes) (r : Sizes) (log logtags : List ℕ) (starts maps : List (List ℕ)) (buckets special : List ℕ) (stacks : List (List ℕ)) : Type 0 where

@@ -2,7 +2,7 @@
 // its functions in that order and finishes with its entry points. No step is undone, since none is refused.
 #![tactic(auto)]
 
-ghost use Rattle.std.specs.Prelude.{true, take};
+ghost use Rattle.std.specs.Prelude.{true, length};
 ghost use Rattle.model.specs.Refusals.{answer_by};
 ghost use Rattle.base_refusals.specs.Numbers.{ended};
 ghost use Rattle.derive_state.specs.Source.{mod_of};
@@ -21,34 +21,34 @@ use derive_state::{DerivedMut, Full, ShaderSource, Sizes, Special, StackRows};
 use function_entry::enter_all;
 use function_localize::append;
 
-// Appends the first `all` functions of the order.
+// Appends the functions of the order.
+// `special` is for the contract alone. No ghost value takes its place: a caller has to pick that from the call's other arguments, and none of them has the special types.
 fn append_all(
     image: Image,
     derived: &mut DerivedMut,
     special: &Special,
     stacks: &mut StackRows,
     ends: Sizes,
-    order: &[u32; 256],
-    all: usize,
+    order: &[u32],
 ) -> Result<Sizes, Full>
     requires valid_session { ValidSession true image.n 0 image.words.now image.tags.now derived.old.log.now derived.old.logtags.now derived.old.starts.now derived.old.maps.now derived.old.buckets.now special.now (going ends) }
     requires stacks { Stacks stacks.old (going ends) }
-    requires sequence { Sequence image.words.now image.n order.now all }
-    requires roomy { Roomy (mod_of image.words.now image.n) (take all order.now) (st_of image.words.now derived.old.log.now derived.old.logtags.now derived.old.starts.now derived.old.maps.now special.now (going ends)) }
-    ensures { AppendsAll image.entry.words.now image.entry.tags.now image.entry.n (take all order.now) derived.old special.now ends result derived.new stacks.new }
+    requires sequence { Sequence image.words.now image.n order.now (length order.now) }
+    requires roomy { Roomy (mod_of image.words.now image.n) order.now (st_of image.words.now derived.old.log.now derived.old.logtags.now derived.old.starts.now derived.old.maps.now special.now (going ends)) }
+    ensures { AppendsAll image.entry.words.now image.entry.tags.now image.entry.n order.now derived.old special.now ends result derived.new stacks.new }
 {
     let source = ShaderSource { image, offset: 0 };
     let mut e = ends;
     let mut places = [0u16; 1025];
-    for j in 0..all {
+    for f in order {
         e = append(
             source,
             derived,
             stacks,
             &mut places,
             e,
-            order[j] as usize,
-            all,
+            *f as usize,
+            order.len(),
         )?;
     }
     Ok(e)
@@ -76,7 +76,7 @@ pub fn link_in_order(
     let source = ShaderSource { image, offset: 0 };
     let set = source_types(source, derived, &mut special, Sizes::empty())?;
     let all = count(image.words, FUNCTIONS);
-    let appended = append_all(image, derived, &special, stacks, set, order, all)?;
+    let appended = append_all(image, derived, &special, stacks, set, &order[..all])?;
     let ends = enter_all(source, derived, &special, stacks, appended)?;
     let bytes = derive_finish::finish(&derived.view(ends), &special, words, output)?;
     Ok(bytes as u32)

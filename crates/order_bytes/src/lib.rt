@@ -1,7 +1,7 @@
 // The output order of any bytes: intake comes first, then the order, callees first, or refusal 12. A refusal leaves the caller's list as it was.
 #![tactic(auto)]
 
-ghost use Rattle.std.specs.Prelude.{◌≡◌, ◌≤◌, length, take};
+ghost use Rattle.std.specs.Prelude.{◌≡◌};
 ghost use Rattle.std.proofs.lemmas.List.Edits.{sets};
 ghost use Rattle.model.specs.Taped.{Tape};
 ghost use Rattle.order_callees.specs.Gathering.{Known};
@@ -13,13 +13,11 @@ ghost use Rattle.order_bytes.specs.Listing.{ListEnsures};
 use base_refusals::Refusal;
 use base_views::Image;
 
-// The first `count` numbers go to the start of `out`, as far as there is room.
-fn copy(order: &[u32; 256], count: usize, out: &mut [u32])
-    requires order_len { length order.now ≡ 256 }
-    requires count_bound { count ≤ 256 }
-    ensures { out.new ≡ sets out.old 0 (take count order.now) }
+// The numbers go to the start of `out`, as far as there is room.
+fn copy(order: &[u32], out: &mut [u32])
+    ensures { out.new ≡ sets out.old 0 order.now }
 {
-    let n = count.min(out.len());
+    let n = order.len().min(out.len());
     out[..n].copy_from_slice(&order[..n]);
 }
 
@@ -32,7 +30,7 @@ fn list(image: Image, out: &mut [u32]) -> Result<u32, Refusal>
     let mut order = [0u32; 256];
     order_callees::order_of(image, &mut order)?;
     let count = base_views::count(image.words, base_views::FUNCTIONS);
-    copy(&order, count, out);
+    copy(&order[..count], out);
     Ok(count as u32)
 }
 

@@ -1,13 +1,13 @@
 -- The pieces that are put one after the other are a line, lines, and the text.
-use mathlib.Core.Path.{◌≡◌, sym, ap, ap₂, ◌∙◌, subst}
+use mathlib.Core.Path.{◌≡◌, sym, ap, ap₂, ◌∙◌}
 use mathlib.Core.Bool.{Bool, true, false, cond}
 use mathlib.Core.List.{List, [], ◌∷◌, ◌++◌, append_assoc}
 use Prim.Native.Nat.{ℕ, suc, ◌+◌, ◌/◌, ◌%◌, ◌≤◌, ◌<◌}
 use native.Mathlib.Omega.{arith}
 use native.Mathlib.Numerals.{add-one}
 use lib.Dec.{ltb}
-use lib.ListN.{length, get_or, take, drop, length-append}
-use lib.Seq.{sets, drop-cons, drop-length, get_or-take, length-take-le}
+use lib.ListN.{length, get_or, drop, length-append}
+use lib.Seq.{sets, drop-cons, drop-length}
 use Rattle.order_lines.specs.Lines.{decimal, numbers_text, line_text, lines_text, headed, FUNCTIONS, ordered_text, name_at, name_is, text_at, TextEnsures, Room, Line, Lines, Text}
 use Rattle.order_lines.proofs.Bytes.{puts_both, puts_long, text_long, sets-append}
 
@@ -78,26 +78,22 @@ module _ {words : List ℕ} {new s : ℕ} {out : List ℕ} {at : ℕ} (q : Line 
       line_end p₃ = rw (append_assoc (numbers_text new s) (name_is words s) (10 ∷ [])) at (puts_both (puts_both p₁ named) p₃)
 
 -- ---- lines: what is left of them, put too, is all of them
-pub record Going (words order : List ℕ) (count : ℕ) (out : List ℕ) (at i next : ℕ) (now : List ℕ) : Type 0 where
-  pub high : i ≤ count
+pub record Going (words order out : List ℕ) (at i next : ℕ) (now : List ℕ) : Type 0 where
+  pub high : i ≤ length order
   pub long : length now ≡ 65536
-  pub is : sets now next (lines_text (drop i (take count order)) i (name_is words)) ≡ sets out at (lines_text (take count order) 0 (name_is words))
-  pub ends : next + length (lines_text (drop i (take count order)) i (name_is words)) ≡ at + length (lines_text (take count order) 0 (name_is words))
+  pub is : sets now next (lines_text (drop i order) i (name_is words)) ≡ sets out at (lines_text order 0 (name_is words))
+  pub ends : next + length (lines_text (drop i order) i (name_is words)) ≡ at + length (lines_text order 0 (name_is words))
 
-module _ {words order : List ℕ} {count : ℕ} {out : List ℕ} {at : ℕ} (q : Lines words order count out at) where
-  pub taken : length (take count order) ≡ count
-  taken = length-take-le count order (omega (arith, q.prints.order_long, q.prints.count_few))
-
-  module _ {i next : ℕ} {now : List ℕ} (g : Going words order count out at i next now) where
-    module _ (h : i < count) {s : ℕ} (e : s ≡ get_or order i 0) where
-      split : lines_text (drop i (take count order)) i (name_is words) ≡ line_text i s (name_is words s) ++ lines_text (drop (suc i) (take count order)) (suc i) (name_is words)
+module _ {words order out : List ℕ} {at : ℕ} (q : Lines words order out at) where
+  module _ {i next : ℕ} {now : List ℕ} (g : Going words order out at i next now) where
+    module _ (h : i < length order) {s : ℕ} (e : s ≡ get_or order i 0) where
+      split : lines_text (drop i order) i (name_is words) ≡ line_text i s (name_is words s) ++ lines_text (drop (suc i) order) (suc i) (name_is words)
       unfolding lines_text
       split =
-          let f : get_or (take count order) i 0 ≡ s = get_or-take count order i 0 h ∙ sym e in
-          ap (λ l. lines_text l i (name_is words)) (drop-cons (take count order) i 0 (omega (arith, taken)) ∙ ap (◌∷ drop (suc i) (take count order)) f)
+          ap (λ l. lines_text l i (name_is words)) (drop-cons order i 0 h ∙ ap (◌∷ drop (suc i) order) (sym e))
 
-      split_long : length (lines_text (drop i (take count order)) i (name_is words)) ≡ length (line_text i s (name_is words s)) + length (lines_text (drop (suc i) (take count order)) (suc i) (name_is words))
-      split_long = ap length split ∙ length-append (line_text i s (name_is words s)) (lines_text (drop (suc i) (take count order)) (suc i) (name_is words))
+      split_long : length (lines_text (drop i order) i (name_is words)) ≡ length (line_text i s (name_is words s)) + length (lines_text (drop (suc i) order) (suc i) (name_is words))
+      split_long = ap length split ∙ length-append (line_text i s (name_is words s)) (lines_text (drop (suc i) order) (suc i) (name_is words))
 
       pub line_asks : Line words i s now next
       line_asks =
@@ -109,24 +105,24 @@ module _ {words order : List ℕ} {count : ℕ} {out : List ℕ} {at : ℕ} (q :
             fits = omega (arith, split_long, g.ends, q.fits);
           }
 
-      pub lines_again : {now' : List ℕ} {r : ℕ} → TextEnsures now next (line_text i s (name_is words s)) now' r → Going words order count out at (i + 1) r now'
+      pub lines_again : {now' : List ℕ} {r : ℕ} → TextEnsures now next (line_text i s (name_is words s)) now' r → Going words order out at (i + 1) r now'
       lines_again {now'} {r} p =
           rw (add-one i) (record {
             high = omega arith;
             long = puts_long p ∙ g.long;
             is =
-                ap₂ (λ l j. sets l j (lines_text (drop (suc i) (take count order)) (suc i) (name_is words))) p.is p.ends
-                ∙ sets-append (line_text i s (name_is words s)) now next (lines_text (drop (suc i) (take count order)) (suc i) (name_is words))
+                ap₂ (λ l j. sets l j (lines_text (drop (suc i) order) (suc i) (name_is words))) p.is p.ends
+                ∙ sets-append (line_text i s (name_is words s)) now next (lines_text (drop (suc i) order) (suc i) (name_is words))
                 ∙ sym (ap (sets now next) split)
                 ∙ g.is;
             ends = omega (arith, p.ends, split_long, g.ends);
           })
 
-    pub lines_end : count ≤ i → TextEnsures out at (lines_text (take count order) 0 (name_is words)) now next
+    pub lines_end : length order ≤ i → TextEnsures out at (lines_text order 0 (name_is words)) now next
     unfolding lines_text
     lines_end h =
-        let f : i ≡ length (take count order) = omega (arith, taken, g.high) in
-        let z : lines_text (drop i (take count order)) i (name_is words) ≡ [] = ap (λ l. lines_text l i (name_is words)) (ap (λ j. drop j (take count order)) f ∙ drop-length (take count order)) in
+        let f : i ≡ length order = omega (arith, g.high) in
+        let z : lines_text (drop i order) i (name_is words) ≡ [] = ap (λ l. lines_text l i (name_is words)) (ap (λ j. drop j order) f ∙ drop-length order) in
         record { is = sym (ap (sets now next) z) ∙ g.is; ends = omega (arith, ap length z, g.ends) }
 
 -- ---- a first line, and the text
@@ -134,19 +130,16 @@ pub headed-end : (label : List ℕ) (x : ℕ) {o₀ o₁ o₂ o₃ : List ℕ} {
 unfolding headed
 headed-end label x p₁ p₂ p₃ = rw (append_assoc label (decimal x) (10 ∷ [])) at (puts_both (puts_both p₁ p₂) p₃)
 
-module _ {words order : List ℕ} {count : ℕ} {out : List ℕ} (q : Text words order count out) {o₁ : List ℕ} {at : ℕ} (p : TextEnsures out 0 (headed FUNCTIONS count) o₁ at) where
-  counted : length (take count order) ≡ count
-  counted = length-take-le count order (omega (arith, q.prints.order_long, q.prints.count_few))
-
-  pub text_lines : Lines words order count o₁ at
+module _ {words order out : List ℕ} (q : Text words order out) {o₁ : List ℕ} {at : ℕ} (p : TextEnsures out 0 (headed FUNCTIONS (length order)) o₁ at) where
+  pub text_lines : Lines words order o₁ at
   unfolding ordered_text
   text_lines =
       record {
         prints = q.prints;
         long = puts_long p ∙ q.long;
-        fits = omega (arith, p.ends, ap (λ k. length (headed FUNCTIONS k)) counted, q.fits, length-append (headed FUNCTIONS (length (take count order))) (lines_text (take count order) 0 (name_is words)));
+        fits = omega (arith, p.ends, q.fits, length-append (headed FUNCTIONS (length order)) (lines_text order 0 (name_is words)));
       }
 
-  pub text-end : {o₂ : List ℕ} {r : ℕ} → TextEnsures o₁ at (lines_text (take count order) 0 (name_is words)) o₂ r → TextEnsures out 0 (ordered_text (take count order) (name_is words)) o₂ r
+  pub text-end : {o₂ : List ℕ} {r : ℕ} → TextEnsures o₁ at (lines_text order 0 (name_is words)) o₂ r → TextEnsures out 0 (ordered_text order (name_is words)) o₂ r
   unfolding ordered_text
-  text-end u = puts_both (subst (λ k. TextEnsures out 0 (headed FUNCTIONS k) o₁ at) (sym counted) p) u
+  text-end u = puts_both p u

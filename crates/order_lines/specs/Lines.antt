@@ -106,21 +106,20 @@ pub record Line (words : List ℕ) (new s : ℕ) (out : List ℕ) (at : ℕ) : T
   pub long : length out ≡ 65536
   pub fits : at + length (line_text new s (name_is words s)) ≤ 65536
 
--- the first `count` numbers have lines
-pub record Printable (words order : List ℕ) (count : ℕ) : Type 0 where
-  pub order_long : length order ≡ 256
-  pub count_few : count ≤ 256
-  pub known : (k : ℕ) → k < count → Readable words (get_or order k 0)
-  pub few : (k : ℕ) → k < count → get_or order k 0 < 1000
+-- the numbers have lines
+pub record Printable (words order : List ℕ) : Type 0 where
+  pub count_few : length order ≤ 256
+  pub known : (k : ℕ) → k < length order → Readable words (get_or order k 0)
+  pub few : (k : ℕ) → k < length order → get_or order k 0 < 1000
 
 -- and room for them
-pub record Lines (words order : List ℕ) (count : ℕ) (out : List ℕ) (at : ℕ) : Type 0 where
-  pub prints : Printable words order count
+pub record Lines (words order out : List ℕ) (at : ℕ) : Type 0 where
+  pub prints : Printable words order
   pub long : length out ≡ 65536
-  pub fits : at + length (lines_text (take count order) 0 (name_is words)) ≤ 65536
+  pub fits : at + length (lines_text order 0 (name_is words)) ≤ 65536
 
 -- and for the text as a whole
-pub record Text (words order : List ℕ) (count : ℕ) (out : List ℕ) : Type 0 where
-  pub prints : Printable words order count
+pub record Text (words order out : List ℕ) : Type 0 where
+  pub prints : Printable words order
   pub long : length out ≡ 65536
-  pub fits : length (ordered_text (take count order) (name_is words)) ≤ 65536
+  pub fits : length (ordered_text order (name_is words)) ≤ 65536

@@ -2,7 +2,7 @@
 // name.
 #![tactic(auto)]
 
-ghost use Rattle.std.specs.Prelude.{◌≡◌, ◌+◌, ◌≤◌, ◌<◌, length, take};
+ghost use Rattle.std.specs.Prelude.{◌≡◌, ◌+◌, ◌≤◌, ◌<◌, length};
 ghost use Rattle.order_lines.specs.Lines.{decimal, numbers_text, line_text, lines_text, headed, ordered_text, name_at, name_is, text_at, TextEnsures, Puts, SameBuffer, Room, Readable, Line, Lines, Text};
 
 use base_words::Words;
@@ -97,13 +97,13 @@ impl Cursor<'_> {
         self.put(b"\n");
     }
 
-    // The lines of an order of `count` functions.
-    fn put_lines(&mut self, words: &Words, order: &[u32; 256], count: usize)
-        requires { Lines words.now order.now count self.old.out.now self.old.at }
-        ensures puts { Puts self.old (lines_text (take count order.now) 0 (name_is words.now)) self.new }
+    // The lines of an order.
+    fn put_lines(&mut self, words: &Words, order: &[u32])
+        requires { Lines words.now order.now self.old.out.now self.old.at }
+        ensures puts { Puts self.old (lines_text order.now 0 (name_is words.now)) self.new }
         ensures same { SameBuffer self.old self.new }
     {
-        for (k, s) in order[..count].iter().enumerate() {
+        for (k, s) in order.iter().enumerate() {
             self.put_line(words, k, *s as usize);
         }
     }
@@ -132,13 +132,13 @@ pub fn head(label: &[u8], x: usize, out: &mut [u8; 65536]) -> usize
     cursor.at
 }
 
-// The text of an order of `count` functions, and how many bytes it has.
-pub fn text(words: &Words, order: &[u32; 256], count: usize, out: &mut [u8; 65536]) -> usize
-    requires { Text words.now order.now count out.old }
-    ensures { TextEnsures out.old 0 (ordered_text (take count order.now) (name_is words.now)) out.new result }
+// The text of an order, and how many bytes it has.
+pub fn text(words: &Words, order: &[u32], out: &mut [u8; 65536]) -> usize
+    requires { Text words.now order.now out.old }
+    ensures { TextEnsures out.old 0 (ordered_text order.now (name_is words.now)) out.new result }
 {
     let mut cursor = Cursor { out, at: 0 };
-    cursor.put_head(b"functions ", count);
-    cursor.put_lines(words, order, count);
+    cursor.put_head(b"functions ", order.len());
+    cursor.put_lines(words, order);
     cursor.at
 }

@@ -1,16 +1,18 @@
 -- Sets of marks: what a word with one more bit does to its set, what a meeting of two words says of two sets, and the count of a set.
 use mathlib.Core.Path.{◌≡◌, refl, sym, ap, ◌∙◌}
-use mathlib.Core.Bool.{Bool, true, false, cond, ◌&&◌}
+use mathlib.Core.Bool.{Bool, true, false, cond, ◌&&◌, ◌||◌}
 use mathlib.Core.Logic.{◌⊎◌, inl, inr, ⊎_elim}
 use mathlib.Core.List.{List, [], ◌++◌, append-nil}
 use Prim.Native.Nat.{ℕ, zero, suc, ◌+◌, ◌-◌, ◌*◌, ◌/◌, ◌%◌, ◌≤◌, ◌<◌}
 use native.Mathlib.Nat.{mod-lt, div-add-mod', zero-lt-suc, zero-add, suc-add, div-lt_iff_lt-mul}
+use native.Mathlib.Numerals.{add-one}
 use native.Mathlib.Omega.{arith}
 use lib.Dec.{eqb}
 use lib.Arith.{digits_div, digits_mod}
 use lib.ListN.{length, get_or, set, replicate, length-append, length-set, length-replicate}
 use lib.Seq.{get_or-set_same, get_or-set_other}
 use borrow.Author.Tests.{eqb-true, eqb-false, eq-eqb, lt-ltb, le-ltb}
+use Rattle.std.specs.List.{list_any, sum_by, range_with_len}
 use Rattle.theory_lists.specs.Lists.{zeros}
 use Rattle.theory_lists.specs.Booleans.{and-true, and_first, and_second, bool_same, never, either}
 use Rattle.model.specs.Calls.{In, numbers, any, keep}
@@ -132,6 +134,16 @@ firsts-members l n h f =
 
 -- ---- two sets meet
 
+-- one number of a range, in the words of the library and of the model
+one_of : (p : ℕ → Bool) (d j : ℕ) → list_any p (range_with_len j d) ≡ any (numbers d j) p
+unfolding any numbers
+one_of p zero j = refl
+one_of p (suc d) j = rw add-one (go (p j) (one_of p d (suc j)))
+  where
+    go : (b : Bool) → list_any p (range_with_len (suc j) d) ≡ any (numbers d (suc j)) p → b || list_any p (range_with_len (suc j) d) ≡ cond b true (any (numbers d (suc j)) p)
+    go true e = refl
+    go false e = e
+
 module _ (cs ws : List ℕ) where
   -- word w of the one meets word w of the other
   pub meet_calls : (w : ℕ) → w < 4 → meets (get_or cs w 0) (get_or ws w 0) ≡ true → any (members ws) (holds cs) ≡ true
@@ -163,6 +175,21 @@ module _ (cs ws : List ℕ) where
       (λ f. f)
       (either (holds cs k)))
 
+  -- the sets meet if one of the words has a bit in common
+  pub words_meet : list_any (λ w. meets (get_or cs w 0) (get_or ws w 0)) (range_with_len 0 4) ≡ any (members ws) (holds cs)
+  words_meet = one_of m 4 0 ∙ go (either (any (numbers 4 0) m))
+    where
+      m : ℕ → Bool
+      m w = meets (get_or cs w 0) (get_or ws w 0)
+
+      go : (any (numbers 4 0) m ≡ true) ⊎ (any (numbers 4 0) m ≡ false) → any (numbers 4 0) m ≡ any (members ws) (holds cs)
+      go (inl t) =
+          let s = any_in m (numbers 4 0) t in
+          let r = numbers_in 4 0 s.1 in
+          let l : s.0 < 4 = omega arith in
+          t ∙ sym (meet_calls s.0 l s.2)
+      go (inr f) = f ∙ sym (apart-calls (λ w h. any_off m (numbers 4 0) f w (in_numbers 4 0 w (omega arith) h)))
+
 -- whether function i calls one of a set
 pub calls_one_of : (cs : List FunctionSet) (i : ℕ) (ws : List ℕ) → any (members ws) (holds (get_or cs i (record { 0 = [] })).0) ≡ any (members ws) (marked cs i)
 unfolding marked
@@ -191,10 +218,9 @@ cut p m a =
     ap (λ (is : List ℕ). length (keep is p)) (numbers-append 64 m a) ∙ ap length (keep_append p (numbers 64 a) (numbers m (a + 64)))
     ∙ length-append (keep (numbers 64 a) p) (keep (numbers m (a + 64)) p)
 
-pub counts : (l : List ℕ) (a b c d : ℕ) → a ≡ length (ones_of (get_or l 0 0)) → b ≡ length (ones_of (get_or l 1 0)) → c ≡ length (ones_of (get_or l 2 0))
-    → d ≡ length (ones_of (get_or l 3 0)) → a + b + c + d ≡ length (members l)
+pub counts : (l : List ℕ) → sum_by (λ w. length (ones_of (get_or l w 0))) (range_with_len 0 4) ≡ length (members l)
 unfolding members
-counts l a b c d ea eb ec ed =
+counts l =
     let x = cut (holds l) 192 0 in
     let y = cut (holds l) 128 64 in
     let z = cut (holds l) 64 128 in

@@ -63,24 +63,14 @@ impl FunctionSet {
     pub fn count(&self) -> u32
         ensures { result ≡ length (members self.now.0) }
     {
-        // no chain: of the words that it goes over nothing says that they are below 2 ^ 64
-        self.0[0].count_ones()
-            + self.0[1].count_ones()
-            + self.0[2].count_ones()
-            + self.0[3].count_ones()
+        (0..4).map(|w| self.0[w].count_ones()).sum()
     }
 
     // Whether a function is in both sets.
     pub fn meets(&self, other: &FunctionSet) -> bool
         ensures { result ≡ any (members other.now.0) (holds self.now.0) }
     {
-        // no chain: of the words that it goes over nothing says that they are below 2 ^ 64
-        for w in 0..4 {
-            if self.0[w] & other.0[w] != 0 {
-                return true;
-            }
-        }
-        false
+        (0..4).any(|w| self.0[w] & other.0[w] != 0)
     }
 }
 

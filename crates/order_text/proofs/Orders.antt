@@ -7,7 +7,7 @@ use Prim.Native.Nat.{ℕ, zero, suc, ◌+◌, ◌≤◌, ◌<◌}
 use native.Mathlib.Omega.{arith}
 use lib.Dec.{eqb, ltb}
 use lib.ListN.{length, get_or, take, replicate, length-replicate}
-use lib.Seq.{get_or-take, length-take-le}
+use lib.Seq.{length-take-le}
 use borrow.Author.Tests.{eq-eqb, ltb-true, ltb-false}
 use Rattle.theory_lists.specs.Booleans.{either}
 use Rattle.model.specs.Module.{Module, count_at}
@@ -115,17 +115,19 @@ module _ {words tags : List ℕ} {n : ℕ} (p : Tape words tags n) (q : Passed w
         (taken_long ∙ functions_are)
         known
 
-  of_table : (k : ℕ) → k < count → get_or order k 0 < count_at 6 words
-  of_table k h = omega (arith, get_or-take count order k 0 h, known p.taped k (omega (arith, taken_long)), functions_are p.taped)
+  of_table : (k : ℕ) → k < length (take count order) → get_or (take count order) k 0 < count_at 6 words
+  of_table k h = omega (arith, known p.taped k h, functions_are p.taped)
 
-  pub text_asks : {out : List ℕ} → length out ≡ 65536 → Text words order count out
+  pub all_long : count ≤ length order
+  all_long = omega (arith, order_long, count_fits)
+
+  pub text_asks : {out : List ℕ} → length out ≡ 65536 → Text words (take count order) out
   text_asks h =
       record {
         prints =
             record {
-              order_long = order_long;
-              count_few = count_fits;
-              known = λ k i. readable p (passed-naming q) (get_or order k 0) (of_table k i);
+              count_few = omega (arith, taken_long, count_fits);
+              known = λ k i. readable p (passed-naming q) (get_or (take count order) k 0) (of_table k i);
               few = λ k i. omega (arith, of_table k i, few p.taped);
             };
         long = h;
@@ -160,7 +162,10 @@ module _ {words tags : List ℕ} {n : ℕ} {before order : List ℕ} {e : Refusa
       }
 
 -- the same, of an answer that is known to be one of them
-pub asks_all : {words tags : List ℕ} {n : ℕ} {order : List ℕ} {a : Result (Unit {0}) Refusal} → Tape words tags n → Passed words tags n → a ≡ Ok tt → Listed words tags n (replicate 256 0) a order → {count : ℕ} → count ≡ count_at 6 words → {out : List ℕ} → length out ≡ 65536 → Text words order count out
+pub long_all : {words tags : List ℕ} {n : ℕ} {order : List ℕ} {a : Result (Unit {0}) Refusal} → Tape words tags n → Passed words tags n → a ≡ Ok tt → Listed words tags n (replicate 256 0) a order → {count : ℕ} → count ≡ count_at 6 words → count ≤ length order
+long_all p q e l c = all_long p q (rw e at l) c
+
+pub asks_all : {words tags : List ℕ} {n : ℕ} {order : List ℕ} {a : Result (Unit {0}) Refusal} → Tape words tags n → Passed words tags n → a ≡ Ok tt → Listed words tags n (replicate 256 0) a order → {count : ℕ} → count ≡ count_at 6 words → {out : List ℕ} → length out ≡ 65536 → Text words (take count order) out
 asks_all p q e l c h = text_asks p q (rw e at l) c h
 
 pub tells_all : {words tags : List ℕ} {n : ℕ} {order : List ℕ} {a : Result (Unit {0}) Refusal} → Tape words tags n → Passed words tags n → a ≡ Ok tt → Listed words tags n (replicate 256 0) a order → {count : ℕ} → count ≡ count_at 6 words

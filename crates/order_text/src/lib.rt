@@ -29,7 +29,7 @@ pub fn tell(image: Image, out: &mut [u8; 65536]) -> Said
     let count = match ended {
         Ok(()) => {
             let functions = base_views::count(image.words, base_views::FUNCTIONS);
-            text(image.words, &order, functions, out)
+            text(image.words, &order[..functions], out)
         }
         // Only a ring is refused.
         Err(refusal) => head(b"refused 12 left ", refusal.count() as usize, out),

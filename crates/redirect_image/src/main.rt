@@ -3,34 +3,19 @@
 #![tactic(auto)]
 
 ghost use Rattle.std.specs.Prelude.{◌≡◌, ◌≤◌, length};
-ghost use Rattle.redirect_image.specs.Numbers.{stepped, read as read_of};
+ghost use Rattle.redirect_image.specs.Numbers.{read as read_of};
 
 use redirect_words::Request;
 use std::env::{Env, FillError};
 
-// A number and one more digit; none where that is no number of 32 bits.
-#[tactic(auto, unfolding(crate::specs::Numbers::stepped))]
-fn step(x: u32, digit: u8) -> Option<u32>
-    ensures { result ≡ stepped x digit }
-{
-    if !digit.is_ascii_digit() {
-        return None;
-    }
-    x.checked_mul(10)?.checked_add(u32::from(digit - b'0'))
-}
-
-// A decimal number. (The `parse` of std would take a sign too.)
+// A decimal number: digits alone, since `parse` takes a sign too.
 fn read(text: &[u8]) -> Option<u32>
     ensures { result ≡ read_of text.now }
 {
-    if text.is_empty() {
+    if !text.iter().all(|b| b.is_ascii_digit()) {
         return None;
     }
-    let mut x = 0;
-    for digit in text {
-        x = step(x, *digit)?;
-    }
-    Some(x)
+    str::from_utf8(text).ok()?.parse().ok()
 }
 
 // Argument i as a number.

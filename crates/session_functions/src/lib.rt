@@ -35,6 +35,7 @@ fn empty_stacks(stacks: &mut StackRows)
 }
 
 // Appends function f, with room for so many functions in progress beside it; where it does not fit nothing has changed.
+// `special` is for the contract alone. No ghost value takes its place: a caller has to pick that from the call's other arguments, and none of them has the special types.
 fn append_or_undo(
     source: ShaderSource,
     derived: &mut DerivedMut,

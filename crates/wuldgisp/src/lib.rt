@@ -15,10 +15,14 @@ use redirect_words::Request;
 use session::RefusedStep;
 
 // Intake: 0 for an image that is accepted, else the number of the test that refuses it, 1 to 6. Meaning: `intake_accepts`.
+// A number and no `Result`, since C reads one number.
 pub fn wuldgisp_intake(image: &[u8]) -> u32
     ensures { IntakeEnsures result image.now }
 {
-    intake::intake(image)
+    match intake::intake(image) {
+        Ok(_) => 0,
+        Err(refusal) => refusal.number(),
+    }
 }
 
 // The output order, as far as there is room for it. The low half of the answer is the number of the refusal, or 0; the high half is the count of functions,

@@ -34,8 +34,8 @@ loop-j-preserved c =
 pub is_unmapped_standing-requires : goal.is_unmapped_standing-requires
 is_unmapped_standing-requires c = let a = c.args in let l = c.loop-j in let inv = l.invariant.0 in let less = c.loop-j-test.true in let q = own_found (get_or a.function.source.image.tags.now l.j 0) (get_or a.function.source.image.words.now l.j 0) c.in-Some-Own.field-0-is c.in-Some-Own.ensures in let h = operand_in c.requires.expressions c.requires.e_lt_k c.requires.valid_arrays inv less refl q.1 q.2 q.0 refl in let few = c.requires.expressions.few in (omega arith, first_in c.requires.expressions h)
 
-pub import_unmapped-requires-clause-e_lt_k : goal.import_unmapped-requires-clause-e_lt_k
-import_unmapped-requires-clause-e_lt_k c = let a = c.args in let l = c.loop-j in let inv = l.invariant.0 in let less = c.loop-j-test.true in let q = own_found (get_or a.function.source.image.tags.now l.j 0) (get_or a.function.source.image.words.now l.j 0) c.in-Some-Own.field-0-is c.in-Some-Own.ensures in operand_in c.requires.expressions c.requires.e_lt_k c.requires.valid_arrays inv less refl q.1 q.2 q.0 refl
+pub import_operand-requires-clause-e_lt_k : goal.import_operand-requires-clause-e_lt_k
+import_operand-requires-clause-e_lt_k c = let a = c.args in let l = c.loop-j in let inv = l.invariant.0 in let less = c.loop-j-test.true in let q = own_found (get_or a.function.source.image.tags.now l.j 0) (get_or a.function.source.image.words.now l.j 0) c.in-Some-Own.field-0-is c.in-Some-Own.ensures in operand_in c.requires.expressions c.requires.e_lt_k c.requires.valid_arrays inv less refl q.1 q.2 q.0 refl
 
 pub returns-in_err-got-in-Some-Own : goal.returns-in_err-got-in-Some-Own
 returns-in_err-got-in-Some-Own c = let p = err_from_is_err_and c.from_residual-in_err-got-in-Some-Own.result c.from_residual-in_err-got-in-Some-Own.ensures.1 in rw (p.1, p.2) (record { does = let a = c.args in let l = c.loop-j in let inv = l.invariant.0 in let less = c.loop-j-test.true in let q = own_found (get_or a.function.source.image.tags.now l.j 0) (get_or a.function.source.image.words.now l.j 0) c.in-Some-Own.field-0-is c.in-Some-Own.ensures in glance_full c.requires.expressions a.function.source.image.n a.function.source.offset refl c.requires.valid_arrays c.requires.under c.requires.e_lt_k c.if-exprmap-e-ne0.false refl refl inv less (operand_done c.requires.expressions c.requires.e_lt_k c.requires.valid_arrays inv less refl q.1 q.2 q.0 refl (c.is_unmapped_standing.ensures.e_value c.if-is_unmapped_standing.true).1 c.in_err-got-in-Some-Own.ensures.does) refl; same = arrays_then c.loop-j.invariant.1 c.in_err-got-in-Some-Own.ensures.same })

@@ -2,11 +2,13 @@ use mathlib.Core.Path.{refl, ap, sym}
 use mathlib.Core.Bool.{false≢true}
 use Prim.Native.Nat.{ℕ}
 use native.Mathlib.Omega.{arith}
+use lib.Seq.{length-take-le}
 use lib.ListN.{replicate, length-replicate}
 use Rattle.model.specs.Refusals.{answer_by}
 use Rattle.derive_state.specs.Sizes.{going}
 use Rattle.link_words.proofs.ByOrder.{source_asks, set_room, append_asks, enter_asks, enter_room, answer_fits, links_by}
 use Rattle.derive_finish.proofs.Refused.{not_zero}
+use Rattle.link_words.proofs.Appending.{seq_taken}
 use Rattle.link_words.proofs.link_in_order.Goals as goal
 
 pub source_types-requires-clause-valid_arrays : goal.source_types-requires-clause-valid_arrays
@@ -18,6 +20,12 @@ returns-in_err-set c = let a = c.args in let e = c.empty in absurd (false≢true
 
 pub append_all-requires-clause-valid_session : goal.append_all-requires-clause-valid_session
 append_all-requires-clause-valid_session c = let a = c.args in let e = c.empty in (append_asks a.words.now a.tags.now a.n a.order.now a.output.now c.requires.linkable a.derived.now.log.now a.derived.now.logtags.now a.derived.now.starts.now (replicate 16384 0) a.stacks.now c.requires.scratch_lengths (length-replicate {A = ℕ} 16384 0) (going e.result) (ap (λ y. going y) e.ensures) _ _ _ _ _ _ _ (rw c.new-special.ensures at c.in_ok-set.ensures.does) _ c.count-all.ensures.0).0
+
+pub append_all-requires-clause-sequence : goal.append_all-requires-clause-sequence
+append_all-requires-clause-sequence c = let a = c.args in let e = c.empty in seq_taken _ _ _ _ (append_asks a.words.now a.tags.now a.n a.order.now a.output.now c.requires.linkable a.derived.now.log.now a.derived.now.logtags.now a.derived.now.starts.now (replicate 16384 0) a.stacks.now c.requires.scratch_lengths (length-replicate {A = ℕ} 16384 0) (going e.result) (ap (λ y. going y) e.ensures) _ _ _ _ _ _ _ (rw c.new-special.ensures at c.in_ok-set.ensures.does) _ c.count-all.ensures.0).2
+
+pub slice_bounds-append_all-end : goal.slice_bounds-append_all-end
+slice_bounds-append_all-end c = sym (length-take-le c.count-all.result c.args.order.now (omega (arith, c.requires.linkable.sequence.long, c.count-all.ensures.0)))
 
 pub append_all-requires-clause-roomy : goal.append_all-requires-clause-roomy
 append_all-requires-clause-roomy c = let a = c.args in let e = c.empty in (append_asks a.words.now a.tags.now a.n a.order.now a.output.now c.requires.linkable a.derived.now.log.now a.derived.now.logtags.now a.derived.now.starts.now (replicate 16384 0) a.stacks.now c.requires.scratch_lengths (length-replicate {A = ℕ} 16384 0) (going e.result) (ap (λ y. going y) e.ensures) _ _ _ _ _ _ _ (rw c.new-special.ensures at c.in_ok-set.ensures.does) _ c.count-all.ensures.0).3

@@ -3,4 +3,4 @@ use Rattle.order_bytes.proofs.Copying.{copied}
 use Rattle.order_bytes.proofs.copy.Goals as goal
 
 pub returns : goal.returns
-returns c = copied _ _ _ _ _ c.min-n.ensures c.copy_from_slice.ensures.after c.requires.order_len c.requires.count_bound
+returns c = copied _ _ _ _ c.min-n.ensures c.copy_from_slice.ensures.after

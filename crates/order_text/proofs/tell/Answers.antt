@@ -1,13 +1,21 @@
 -- `order_text::tell` meets its contract: there is room for every order and for every ring.
+use mathlib.Core.Path.{sym}
+use lib.Seq.{length-take-le}
 use lib.ListN.{length-replicate}
 use Prim.Native.Nat.{ℕ}
 use native.Mathlib.Omega.{arith}
 use Rattle.order_text.proofs.Known.{passed-callees}
-use Rattle.order_text.proofs.Orders.{asks_all, tells_all, few_ring, tells_ring}
+use Rattle.order_text.proofs.Orders.{long_all, asks_all, tells_all, few_ring, tells_ring}
 use Rattle.order_text.proofs.tell.Goals as goal
 
 pub order_of-ended-requires : goal.order_of-ended-requires
 order_of-ended-requires c = record { tape = c.requires.tape; known = passed-callees c.requires.passed; out_len = length-replicate {A = ℕ} 256 0 }
+
+pub slice_bounds-order-end : goal.slice_bounds-order-end
+slice_bounds-order-end c = let l = long_all c.requires.tape c.requires.passed c.in-Ok.is c.order_of-ended.ensures c.count-functions.ensures.0 in omega (arith, l)
+
+pub slice_bounds-text-end : goal.slice_bounds-text-end
+slice_bounds-text-end c = sym (length-take-le c.count-functions.result c.order_of-ended.new.out (long_all c.requires.tape c.requires.passed c.in-Ok.is c.order_of-ended.ensures c.count-functions.ensures.0))
 
 pub text-count-requires : goal.text-count-requires
 text-count-requires c = asks_all c.requires.tape c.requires.passed c.in-Ok.is c.order_of-ended.ensures c.count-functions.ensures.0 c.requires.out_len

@@ -1,18 +1,25 @@
-use Rattle.redirect_image.proofs.Numbers.{read-nothing, read-begin, read_next, read_not, read_done}
-use borrow.Author.Rules.{rules}
+use mathlib.Core.Path.{sym, subst, ◌∙◌}
+use borrow.Author.Tests.{tests}
+use Rattle.std.proofs.Common.{rules}
+use Rattle.std.proofs.lemmas.Iterator.{YieldsList-from_slice}
+use Rattle.std.proofs.lemmas.Iterator.Search.{all_from_yields_List}
+use Rattle.std.specs.Char.{is_ascii_digit}
+use Rattle.std.specs.Str.Parse.{ParsesUnsigned}
+use Rattle.redirect_image.proofs.Numbers.{read_wrong, digits_utf8, read_parsed, some_is, none_is}
 use Rattle.redirect_image.proofs.read.Goals as goal
 
-pub returns-then-is_empty : goal.returns-then-is_empty
-returns-then-is_empty c = search (read-nothing, rules)
+pub returns-then-not-all : goal.returns-then-not-all
+returns-then-not-all c =
+    let e = all_from_yields_List is_ascii_digit _ _ c.all.result c.all.ensures.ran (YieldsList-from_slice c.args.text.now cc) (λ x b q k. search (rules, tests)) in
+    read_wrong _ (sym e ∙ c.if-not-all.true)
 
-pub loop-digit-init : goal.loop-digit-init
-loop-digit-init c = search (read-begin, rules)
-
-pub loop-digit-preserved : goal.loop-digit-preserved
-loop-digit-preserved c = read_next _ _ _ c.loop-digit.invariant (search rules) _ c.step.ensures _ c.in_ok-x.was
-
-pub returns-in_err-x : goal.returns-in_err-x
-returns-in_err-x c = rw c.from_residual.ensures (read_not _ _ _ c.loop-digit.invariant (search rules) _ c.step.ensures c.in_err-x.was)
+pub returns-in_err-ok : goal.returns-in_err-ok
+returns-in_err-ok c =
+    let e = all_from_yields_List is_ascii_digit _ _ c.all.result c.all.ensures.ran (YieldsList-from_slice c.args.text.now cc) (λ x b q k. search (rules, tests)) in
+    absurd ((none_is _ _ c.from_utf8.result c.from_utf8.ensures.cases c.ok.result c.ok.ensures.value c.in_err-ok.was).1.0 (digits_utf8 _ (sym e ∙ c.if-not-all.false)))
 
 pub returns : goal.returns
-returns c = read_done _ _ _ c.loop-digit.invariant (search rules)
+returns c =
+    let e = all_from_yields_List is_ascii_digit _ _ c.all.result c.all.ensures.ran (YieldsList-from_slice c.args.text.now cc) (λ x b q k. search (rules, tests)) in
+    let s = some_is _ _ c.from_utf8.result c.from_utf8.ensures.cases c.ok.result c.ok.ensures.value c.in_ok-ok.field-0 c.in_ok-ok.was in
+    c.ok-2.ensures.value ∙ read_parsed c.args.text.now (sym e ∙ c.if-not-all.false) c.parse.result (subst (λ l. ParsesUnsigned 32 10 l c.parse.result) s.0 c.parse.ensures.value.0)

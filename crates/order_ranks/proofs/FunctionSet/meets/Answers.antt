@@ -1,20 +1,21 @@
--- `FunctionSet::meets` meets its contract. The invariant: no word passed has a bit in common.
-use mathlib.Core.Bool.{not}
-use mathlib.Core.Path.{sym, ap, ◌∙◌}
-use native.Mathlib.Omega.{arith}
+-- `FunctionSet::meets` meets its contract: word by word, the sets have a bit in common.
+use mathlib.Core.Path.{refl, ◌∙◌}
 use lib.ListN.{get_or}
-use borrow.Author.Rules.{rules}
-use borrow.Author.Count.{below_more}
-use borrow.Author.Tests.{eq-eqb, ne_eqb}
+use borrow.Author.Tests.{tests}
+use Rattle.std.proofs.Common.{rules}
+use Rattle.std.proofs.lemmas.Iterator.{YieldsList-from_range, serves_from_Range}
+use Rattle.std.proofs.lemmas.Iterator.Search.{any_from_yields_List}
+use Rattle.order_ranks.specs.Marks.{meets}
 use Rattle.order_ranks.proofs.Bits.{meet_is}
-use Rattle.order_ranks.proofs.Marks.{meet_calls, apart-calls}
+use Rattle.order_ranks.proofs.Marks.{words_meet}
 use Rattle.order_ranks.proofs.FunctionSet.meets.Goals as goal
 
-pub returns-then-self-w-ne0 : goal.returns-then-self-w-ne0
-returns-then-self-w-ne0 c = sym (meet_calls _ _ _ c.loop-w-test.true (sym (meet_is (get_or c.args.self.now.0 c.loop-w.w 0) _ (search rules)) ∙ ap not (ne_eqb _ 0 c.if-self-w-ne0.true)))
-
-pub loop-w-preserved : goal.loop-w-preserved
-loop-w-preserved c = below_more _ _ c.loop-w.invariant (sym (meet_is (get_or c.args.self.now.0 c.loop-w.w 0) _ (search rules)) ∙ ap not (eq-eqb _ 0 c.if-self-w-ne0.false))
+pub any-requires-clause-callable : goal.any-requires-clause-callable
+any-requires-clause-callable c = serves_from_Range (λ x q k. search (rules, tests)) (λ x lo hi. search (rules, tests))
 
 pub returns : goal.returns
-returns c = sym (apart-calls _ _ (λ w h. c.loop-w.invariant w (omega (arith, c.loop-w-test.false))))
+returns c =
+    let a = c.args in
+    any_from_yields_List (λ w. meets (get_or a.self.now.0 w 0) (get_or a.other.now.0 w 0)) _ _ c.any.result c.any.ensures.ran (YieldsList-from_range 0 4 4 refl refl) (λ x b q k.
+    let r = meet_is (get_or a.self.now.0 x 0) (get_or a.other.now.0 x 0) in search (rules, tests, r))
+    ∙ words_meet a.self.now.0 a.other.now.0
