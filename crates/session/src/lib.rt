@@ -34,7 +34,7 @@ pub struct RefusedStep {
 }
 
 // What a step answers as three words: the refusal's number, 0 for none, and two values.
-fn words_of(said: Result<(u32, u32), Refusal>) -> [u32; 3]
+fn three_words(said: Result<(u32, u32), Refusal>) -> [u32; 3]
     ensures { result ≡ (shown said).refusal ∷ (shown said).first ∷ (shown said).second ∷ [] }
 {
     match said {
@@ -108,7 +108,7 @@ pub fn session_in(
             c: steps[4 * j + 3],
         };
         let said = perform(&mut session, sources, output, step);
-        tell(answers, 3 * j, &words_of(said));
+        tell(answers, 3 * j, &three_words(said));
         first = first_of(first, said, j);
     }
     first

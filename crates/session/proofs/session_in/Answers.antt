@@ -17,7 +17,7 @@ pub loop-j-smaller : goal.loop-j-smaller
 loop-j-smaller c = let t = c.loop-j-test.true in omega (arith, t)
 
 pub loop-j-preserved : goal.loop-j-preserved
-loop-j-preserved c = let p = c.perform-said in rw (c.tell.ensures, c.words_of.ensures) (going_next _ _ _ _ _ _ _ _ _ _ _ _ _ _ _ _ _ _ _ _ _ _ c.loop-j.invariant c.loop-j-test.true _ _ _ (said_low p.result) _ _ _ _ _ _ _ _ _ _ _ _ _ _ _ _ p.ensures.does p.ensures.valid.session p.ensures.valid.stacks c.first_of-first.ensures (omega arith))
+loop-j-preserved c = let p = c.perform-said in rw (c.tell.ensures, c.three_words.ensures) (going_next _ _ _ _ _ _ _ _ _ _ _ _ _ _ _ _ _ _ _ _ _ _ c.loop-j.invariant c.loop-j-test.true _ _ _ (said_low p.result) _ _ _ _ _ _ _ _ _ _ _ _ _ _ _ _ p.ensures.does p.ensures.valid.session p.ensures.valid.stacks c.first_of-first.ensures (omega arith))
 
 pub returns : goal.returns
 returns c = let t = c.loop-j-test.false in going_last _ _ _ _ _ _ _ _ _ _ _ _ _ _ _ _ _ _ _ _ _ _ c.loop-j.invariant (omega (arith, t))
