@@ -79,7 +79,7 @@ impl Refusal {
         }
     }
 
-    // The count that a ring has; 0 for any other.
+    // The count that a ring has. 0 for any other, and no `Option`: both that ask write the number, and C reads 0 there.
     pub fn count(self) -> u32
         ensures { result ≡ count_of self }
     {

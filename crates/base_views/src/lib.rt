@@ -3,7 +3,7 @@
 #![tactic(auto)]
 
 ghost use Rattle.std.specs.Prelude.{◌≡◌, ◌+◌, ◌*◌, ◌^◌, ◌≤◌, ◌<◌, get_or};
-ghost use Rattle.model.specs.Module.{count_at, offset_at};
+ghost use Rattle.model.specs.Module.{limits, count_at, offset_at};
 ghost use Rattle.model.specs.View.{record_at, record_end};
 ghost use Rattle.model.specs.FunctionView.{entry_head_words, arguments_at, argument_at, returns_at, locals_at, local_at, expressions_at};
 ghost use Rattle.model.specs.Between.{Long};
@@ -39,7 +39,9 @@ pub const ENTRIES: usize = 7;
 
 pub const SPECIAL: usize = 8;
 
-// How many functions and entry points an image may have. Limits, which stand for no kind.
+// How many records of other tables, pairs of special types, functions and entry points an image may have. Limits, which stand for no kind.
+const MOST_RECORDS: usize = 512;
+
 pub const MOST_FUNCTIONS: usize = 256;
 
 pub const MOST_ENTRIES: usize = 16;
@@ -55,6 +57,18 @@ pub struct Image<'a> {
     pub tags: &'a Tags,
     pub n: usize,
     pub ghost long: { Long words.now tags.now },
+}
+
+// How many records section k may have.
+pub fn limit(k: usize) -> usize
+    requires { k < 9 }
+    ensures { (result ≡ get_or limits k 0) × (result ≤ 512) }
+{
+    match k {
+        FUNCTIONS => MOST_FUNCTIONS,
+        ENTRIES => MOST_ENTRIES,
+        _ => MOST_RECORDS,
+    }
 }
 
 // How many records section k has.

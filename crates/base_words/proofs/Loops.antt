@@ -9,7 +9,7 @@ use Rattle.std.proofs.Common.{append_assoc}
 use Rattle.std.proofs.lemmas.List.Edits.{paste_all}
 use Rattle.std.proofs.lemmas.Slice.{put_mid-paste}
 use lib.ListN.{length, get_or, set, take, drop, length-set, drop_of_length-le}
-use lib.Seq.{sets, sets-eq, slice, slice-cons, slice_empty, drop-cons, length-sets}
+use lib.Seq.{sets, sets-eq, drop-cons, length-sets}
 use Rattle.base_words.specs.Words.{words_of, bytes_of, word_at}
 use Rattle.base_words.proofs.Laws.{length_words_of, word_is}
 
@@ -48,20 +48,20 @@ put at k bytes part vs is long fits =
     ∙ sym (sets-eq vs bytes at (omega arith) ∙ append_assoc (take at bytes) vs (drop (at + length vs) bytes))
 
 -- ---- store: the bytes of the words before i are in place
-pub record Storing (words : List ℕ) (n : ℕ) (bytes₀ bytes : List ℕ) (i : ℕ) : Type 0 where
-  pub to : i ≤ n
+pub record Storing (words bytes₀ bytes : List ℕ) (i : ℕ) : Type 0 where
+  pub to : i ≤ length words
   pub long : length bytes ≡ length bytes₀
-  pub same : sets bytes (4 * i) (bytes_of (slice i n words)) ≡ sets bytes₀ 0 (bytes_of (take n words))
+  pub same : sets bytes (4 * i) (bytes_of (drop i words)) ≡ sets bytes₀ 0 (bytes_of words)
 
-module _ (words : List ℕ) (n : ℕ) (bytes₀ : List ℕ) where
-  pub store-begin : Storing words n bytes₀ bytes₀ 0
+module _ (words bytes₀ : List ℕ) where
+  pub store-begin : Storing words bytes₀ bytes₀ 0
   store-begin = record { to = omega arith; long = refl; same = refl }
 
-  module _ (bytes : List ℕ) (i : ℕ) (inv : Storing words n bytes₀ bytes i) where
-    pub store-next : n ≤ length words → i < n → (bytes₁ : List ℕ) → bytes₁ ≡ sets bytes (4 * i) (bytes_of (get_or words i 0 ∷ [])) → Storing words n bytes₀ bytes₁ (i + 1)
+  module _ (bytes : List ℕ) (i : ℕ) (inv : Storing words bytes₀ bytes i) where
+    pub store-next : i < length words → (bytes₁ : List ℕ) → bytes₁ ≡ sets bytes (4 * i) (bytes_of (get_or words i 0 ∷ [])) → Storing words bytes₀ bytes₁ (i + 1)
     unfolding bytes_of
-    store-next enough h bytes₁ is =
-        let e : slice i n words ≡ get_or words i 0 ∷ slice (suc i) n words = slice-cons i n words 0 h enough in
+    store-next h bytes₁ is =
+        let e : drop i words ≡ get_or words i 0 ∷ drop (suc i) words = drop-cons words i 0 h in
         let four : 4 * (i + 1) ≡ suc (suc (suc (suc (4 * i)))) = omega arith in
         record {
           to = omega arith;
@@ -69,9 +69,8 @@ module _ (words : List ℕ) (n : ℕ) (bytes₀ : List ℕ) where
           same = rw (is, four, add-one i) (rw e at inv.same);
         }
 
-    pub store_done : n ≤ i → bytes ≡ sets bytes₀ 0 (bytes_of (take n words))
+    pub store_done : length words ≤ i → bytes ≡ sets bytes₀ 0 (bytes_of words)
     unfolding bytes_of
     store_done h =
-        let k : i ≡ n = omega (arith, inv.to) in
-        let e : slice i n words ≡ [] = ap (λ j. slice j n words) k ∙ slice_empty n words in
+        let e : drop i words ≡ [] = drop_of_length-le words {i = i} h in
         rw e at inv.same

@@ -1,7 +1,7 @@
 // Bytes to words and back, little-endian, on slices that the caller provides.
 #![tactic(auto)]
 
-ghost use Rattle.std.specs.Prelude.{◌≡◌, ◌+◌, ◌*◌, ◌/◌, ◌^◌, ◌≤◌, ◌<◌, length, take, [], ◌∷◌};
+ghost use Rattle.std.specs.Prelude.{◌≡◌, ◌+◌, ◌*◌, ◌/◌, ◌^◌, ◌≤◌, ◌<◌, length, [], ◌∷◌};
 ghost use Rattle.std.proofs.lemmas.List.Edits.{sets};
 ghost use Rattle.base_words.specs.Words.{word_at, words_of, bytes_of};
 
@@ -37,13 +37,12 @@ fn put_word(bytes: &mut [u8], at: usize, w: u32)
     bytes[at..at + 4].copy_from_slice(&w.to_le_bytes());
 }
 
-// The bytes of the first n words, at the start of `bytes`; the bytes past them stay.
-pub fn store(words: &[u32], n: usize, bytes: &mut [u8])
-    requires n_in_bounds { n ≤ length words.now }
-    requires n_in_bounds_2 { 4 * n ≤ length bytes.old }
-    ensures { bytes.new ≡ sets bytes.old 0 (bytes_of (take n words.now)) }
+// The bytes of the words, at the start of `bytes`; the bytes past them stay.
+pub fn store(words: &[u32], bytes: &mut [u8])
+    requires { 4 * length words.now ≤ length bytes.old }
+    ensures { bytes.new ≡ sets bytes.old 0 (bytes_of words.now) }
 {
-    for j in 0..n {
+    for j in 0..words.len() {
         put_word(bytes, 4 * j, words[j]);
     }
 }

@@ -87,5 +87,5 @@ module _ (log logtags : List ℕ) (starts : List (List ℕ)) (counts : List ℕ)
       pub small : 4 * k ≤ 65536
       small = let x = w.fits k some in omega arith
 
-      pub store-room : length out₀ ≡ 16384 → length out ≡ 16384 → k ≤ length out
-      store-room z l = let x = w.fits k some in omega arith
+      pub store-room : length out₀ ≡ 16384 → 4 * k ≤ length bytes₀ → 4 * length (take k out) ≤ length bytes₀
+      store-room z h = let x = w.fits k some in omega (arith, length-take-le k out (omega (arith, out_long z)))

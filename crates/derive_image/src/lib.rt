@@ -82,6 +82,6 @@ pub fn finish(
     if output.len() < 4 * k {
         return Err(Refusal::ShortOutput);
     }
-    store(out, k, output);
+    store(&out[..k], output);
     Ok(4 * k)
 }

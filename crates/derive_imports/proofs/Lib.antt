@@ -1,4 +1,5 @@
 pub mod Steps
+pub mod Referring
 pub mod Growth
 pub mod Sources
 pub mod Turns

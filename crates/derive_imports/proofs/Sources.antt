@@ -25,7 +25,7 @@ use Rattle.theory_image.specs.Betweens.{part-between, table-count, record_part}
 use Rattle.theory_image.specs.Modules.{write_read}
 use Rattle.derive_state.specs.Refers.{tab_of, Small}
 use Rattle.derive_state.specs.Source.{held_by, mod_of, src_of, Source}
-use Rattle.derive_state.specs.Held.{Nameless, Readable}
+use Rattle.derive_state.specs.Held.{Nameless}
 
 -- ---- words and tags of a module that passed tests 3 and 4 are a source
 pub mod_is : {words tags : List ℕ} {n : ℕ} {m : Module} → Taped words tags n m → mod_of words n ≡ m
@@ -128,13 +128,8 @@ module _ (words tags : List ℕ) (n : ℕ) (src : Source words tags n) where
       pub record_lower : All (Lower (src_of words n) (tab_of t) k) (refs (between tags words begin end))
       record_lower = rw record_is (falls (src_of words n) wf (tab_of t) k inside)
 
-      pub readable : Readable words tags begin end
-      readable = record {
-        stretch = stretch;
-        words_long = src.taped.words_long;
-        tags_long = src.taped.tags_long;
-        small = all_map (refs (between tags words begin end)) (λ j l. small_of (tab_of t) k j l) record_lower;
-      }
+      pub refs_small : All Small (refs (between tags words begin end))
+      refs_small = all_map (refs (between tags words begin end)) (λ j l. small_of (tab_of t) k j l) record_lower
 
       pub plain_name : t ≡ 0 → Nameless (between tags words begin end)
       unfolding src_of tab_of

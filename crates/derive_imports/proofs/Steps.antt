@@ -75,51 +75,7 @@ hit T t k (opt own) (suc w) a h = (a.0.0, a.0.1)
 hit T t k (opt function) zero a h = absurd (omega arith)
 hit T t k (opt function) (suc w) a h = absurd (omega arith)
 
--- ---- the code's tests
-some_is : (w u : ℕ) → (w ≡ 0 → ⊥) → u ≡ if_some w u
-unfolding if_some
-some_is zero u ne = absurd (ne refl)
-some_is (suc w) u ne = refl
-
-less_is : (w : ℕ) → w - 1 ≡ less w
-unfolding less
-less_is zero = refl
-less_is (suc w) = omega arith
-
-pred_is : (w : ℕ) → pred w ≡ less w
-unfolding less
-pred_is zero = refl
-pred_is (suc w) = refl
-
--- the code of what a word refers to, by what the code says of its class
+-- the code of what a word refers to where it refers to nothing
 pub code_none : (s w : ℕ) → copied ≡ unspanned (target s) → 6 ≡ target_of (target s)
 unfolding target_of
 code_none s w is = code_meant s w is
-
-pub code_ref : (s w : ℕ) {p : Place} → ref p ≡ unspanned (target s) → code_p p ≡ target_of (target s)
-unfolding target_of
-code_ref s w is = code_meant s w is
-
-pub code_opt : (s w : ℕ) {p : Place} → opt p ≡ unspanned (target s) → 8 + code_p p ≡ target_of (target s)
-unfolding target_of
-code_opt s w is = code_meant s w is
-
-module _ (s w u : ℕ) (is : u ≡ target_of (target s)) where
-  pub to_ref : u < 6 → (u ≡ refers_to (target s) w) × (w ≡ number_of (target s) w)
-  unfolding refers_to number_of
-  to_ref h = (rw (← is, lt-ltb u 6 h), rw (← is, lt-ltb u 6 h))
-
-  pub to_zero : 6 ≤ u → w ≡ 0 → (6 ≡ refers_to (target s) w) × (0 ≡ number_of (target s) w)
-  to_zero h z = (go (ltb u 8) refl, unfold number_of less in rw (← is, le-ltb u 6 h, z, less))
-    where
-      go : (b : Bool) → ltb u 8 ≡ b → 6 ≡ refers_to (target s) w
-      go true e = unfold refers_to in rw (← is, le-ltb u 6 h, e)
-      go false e = unfold refers_to if_some in rw (← is, le-ltb u 6 h, e, z, if_some)
-
-  pub to_none : 6 ≤ u → u < 8 → (r : ℕ) → r ≡ pred w → (6 ≡ refers_to (target s) w) × (r ≡ number_of (target s) w)
-  unfolding refers_to number_of
-  to_none a b r q = (rw (← is, le-ltb u 6 a, lt-ltb u 8 b), rw (← is, le-ltb u 6 a) (q ∙ pred_is w))
-
-  pub to_opt : 8 ≤ u → (w ≡ 0 → ⊥) → (u - 8 ≡ refers_to (target s) w) × (w - 1 ≡ number_of (target s) w)
-  unfolding refers_to number_of
-  to_opt a z = (rw (← is, le-ltb u 6 (omega arith), le-ltb u 8 a) (some_is w (u - 8) z), rw (← is, le-ltb u 6 (omega arith)) (less_is w))

@@ -1,5 +1,5 @@
-// The import of a record of a table, as derive.rs has it for names, types, constants, overrides, globals and global expressions: what a word of a record refers
-// to, the table and the number there; and the import, which calls itself on what a record refers to.
+// The import of a record of a table, as derive.rs has it for names, types, constants, overrides, globals and global expressions: what a word refers to, a record by its
+// table and its number there; and the import, which calls itself on what a record refers to.
 #![tactic(auto)]
 
 ghost use Rattle.std.specs.Prelude.{MatchOption, ◌≡◌, ◌<◌, ◌≤◌};
@@ -9,10 +9,11 @@ ghost use Rattle.model.specs.Imports.{import_t};
 ghost use Rattle.derive_state.specs.Refers.{tab_of};
 ghost use Rattle.derive_state.specs.Source.{src_of, Source, refers_to, number_of};
 ghost use Rattle.derive_state.specs.Held.{Valid, Imports};
+ghost use Rattle.derive_imports.specs.Referents.{referent_of};
 
 use base_views::EXPRESSIONS;
 use derive_intern::intern;
-use derive_state::{DerivedMut, Full, ShaderSource, Sizes, Target, target_of};
+use derive_state::{DerivedMut, Full, ShaderRecord, ShaderSource, Sizes, Target, target_of};
 
 // A record: its table, and its number there.
 #[derive(Clone, Copy)]
@@ -21,26 +22,40 @@ pub struct Reference {
     pub number: u32,
 }
 
-// The record that the word w of the class s refers to, in a record of a table: an expression of its own is a global one.
-pub fn refers_to(s: u8, w: u32) -> Option<Reference>
-    ensures { MatchOption result (6 ≤ refers_to (target s) w) (λ r. (r.table ≡ refers_to (target s) w) × (r.number ≡ number_of (target s) w) × (r.table < 6)) }
+// What a word refers to: a record of a table, or an expression of the word's own function; among global expressions that is one of these.
+#[derive(Clone, Copy)]
+pub enum Referent {
+    Record(Reference),
+    Own(u32),
+}
+
+// What the word w of the class s refers to; a function that it names is no part of that.
+pub fn referent_of(s: u8, w: u32) -> Option<Referent>
+    ensures { result ≡ referent_of (target s) w }
 {
     match target_of(s) {
         Target::Nothing | Target::Function => None,
-        Target::Record(table) => Some(Reference { table, number: w }),
-        Target::Own => Some(Reference {
-            table: EXPRESSIONS,
-            number: w,
-        }),
+        Target::Record(table) => Some(Referent::Record(Reference { table, number: w })),
+        Target::Own => Some(Referent::Own(w)),
         Target::Optional(_) if w == 0 => None,
-        Target::Optional(table) => Some(Reference {
+        Target::Optional(table) => Some(Referent::Record(Reference {
             table,
             number: w - 1,
-        }),
+        })),
         Target::OptionalOwn if w == 0 => None,
-        Target::OptionalOwn => Some(Reference {
+        Target::OptionalOwn => Some(Referent::Own(w - 1)),
+    }
+}
+
+// The record that the word w of the class s refers to, in a record of a table.
+pub fn refers_to(s: u8, w: u32) -> Option<Reference>
+    ensures { MatchOption result (6 ≤ refers_to (target s) w) (λ r. (r.table ≡ refers_to (target s) w) × (r.number ≡ number_of (target s) w) × (r.table < 6)) }
+{
+    match referent_of(s, w)? {
+        Referent::Record(r) => Some(r),
+        Referent::Own(number) => Some(Reference {
             table: EXPRESSIONS,
-            number: w - 1,
+            number,
         }),
     }
 }
@@ -51,24 +66,28 @@ pub fn import(
     source: ShaderSource,
     derived: &mut DerivedMut,
     ends: Sizes,
-    table: usize,
-    number: u32,
+    r: Reference,
 ) -> Result<Sizes, Full>
     requires source { Source source.image.words.now source.image.tags.now source.image.n }
-    requires number_bound { (table < 6) × (number < count_at table source.image.words.now) }
+    requires number_bound { (r.table < 6) × (r.number < count_at r.table source.image.words.now) }
     requires valid_arrays { Valid derived.old ends }
-    ensures { Imports source.entry.image.words.now (import_t source.entry.offset (src_of source.entry.image.words.now source.entry.image.n) (tab_of table) number) derived.old ends result derived.new }
+    ensures { Imports source.entry.image.words.now (import_t source.entry.offset (src_of source.entry.image.words.now source.entry.image.n) (tab_of r.table) r.number) derived.old ends result derived.new }
 {
-    let k = number as usize;
-    if derived.maps[table][k] != 0 {
+    let k = r.number as usize;
+    if derived.maps[r.table][k] != 0 {
         return Ok(ends);
     }
-    let (at, end) = source.image.record(table, k);
+    let (at, end) = source.image.record(r.table, k);
     let mut e = ends;
     for j in at..end {
-        if let Some(r) = refers_to(source.image.tags[j], source.image.words[j]) {
-            e = import(source, derived, e, r.table, r.number)?;
+        if let Some(lower) = refers_to(source.image.tags[j], source.image.words[j]) {
+            e = import(source, derived, e, lower)?;
         }
     }
-    intern(source, derived, e, table, k, at, end)
+    let record = ShaderRecord {
+        image: source.image,
+        at,
+        end,
+    };
+    intern(record, source.offset, derived, e, r.table, k)
 }

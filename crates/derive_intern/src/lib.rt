@@ -11,41 +11,42 @@ ghost use Rattle.derive_state.specs.Refers.{tab_of, went_r};
 ghost use Rattle.derive_state.specs.Sizes.{going};
 ghost use Rattle.derive_state.specs.Marks.{MARKS, place_r, Left};
 ghost use Rattle.derive_intern.specs.Buckets.{Tells};
-ghost use Rattle.derive_state.specs.Held.{row, cell, rec_at, recs_at, ValidArrays, Valid, Imports, Readable, Nameless, carried_by};
+ghost use Rattle.derive_state.specs.Held.{row, cell, rec_at, recs_at, ValidArrays, Valid, Imports, Nameless, carried_by};
 
-use base_views::Image;
 use derive_state::{
-    Buckets, Derived, DerivedMut, Full, ShaderSource, Sizes, alike, alike_cell, bucket_of, carried,
+    Buckets, Derived, DerivedMut, Full, ShaderRecord, Sizes, alike, alike_cell, bucket_of, carried,
     write,
 };
 
-// Whether the record at s is what the source's words from `at` to `end` become, ignoring spans: the same as `alike`, but the last word is compared first, since
-// records that are not equal mostly differ there.
-fn equals_record(image: Image, derived: &Derived, at: usize, end: usize, s: usize) -> bool
-    requires readable { Readable image.words.now image.tags.now at end }
-    requires s_bound { (s + suc (get_or derived.now.log.now s 0) ≤ 16384) × (length derived.now.log.now ≡ 16384) × (length derived.now.logtags.now ≡ 16384) }
-    ensures { result ≡ alikeOf (rec_at derived.now.log.now derived.now.logtags.now s) (carried_by (went_r derived.now.maps.now) image.entry.tags.now image.entry.words.now at end) }
+// Whether the record at s is what the source's record becomes, ignoring spans: the same as `alike`, but the last word is compared first, since records that are not
+// equal mostly differ there.
+fn equals_record(source: ShaderRecord, derived: &Derived, s: usize) -> bool
+    requires { (s + suc (get_or derived.now.log.now s 0) ≤ 16384) × (length derived.now.log.now ≡ 16384) × (length derived.now.logtags.now ≡ 16384) }
+    ensures { result ≡ alikeOf (rec_at derived.now.log.now derived.now.logtags.now s) (carried_by (went_r derived.now.maps.now) source.entry.image.tags.now source.entry.image.words.now source.entry.at source.entry.end) }
 {
-    let n = end - at;
+    let n = source.len();
     let may_equal = n == 0
         || derived.log[s] as usize == n
             && alike_cell(
                 derived.logtags[s + n] as u32,
                 derived.log[s + n],
-                image.tags[end - 1],
-                carried(derived.maps, image.tags[end - 1], image.words[end - 1]),
+                source.image.tags[source.end - 1],
+                carried(
+                    derived.maps,
+                    source.image.tags[source.end - 1],
+                    source.image.words[source.end - 1],
+                ),
             );
-    may_equal && alike(image, derived, at, end, s)
+    may_equal && alike(source, derived, s)
 }
 
-// The first of table t's n records that is, ignoring spans, what the source's words become.
-fn find(image: Image, derived: &Derived, at: usize, end: usize, t: usize, n: usize) -> Option<usize>
-    requires readable { Readable image.words.now image.tags.now at end }
+// The first of table t's n records that is, ignoring spans, what the source's record becomes.
+fn find(source: ShaderRecord, derived: &Derived, t: usize, n: usize) -> Option<usize>
     requires t_bound { (t < 8) × (n ≤ 512) × (length derived.now.log.now ≡ 16384) × (length derived.now.logtags.now ≡ 16384) × (length (row derived.now.starts.now t) ≡ 512) }
     requires by_index { (k : ℕ) → k < n → cell derived.now.starts.now t k + suc (get_or derived.now.log.now (cell derived.now.starts.now t k) 0) ≤ 16384 }
-    ensures { MatchOption result (n ≡ index_of (recs_at derived.now.log.now derived.now.logtags.now (take n (row derived.now.starts.now t))) (carried_by (went_r derived.now.maps.now) image.entry.tags.now image.entry.words.now at end)) (λ j. (j < n) × (j ≡ index_of (recs_at derived.now.log.now derived.now.logtags.now (take n (row derived.now.starts.now t))) (carried_by (went_r derived.now.maps.now) image.entry.tags.now image.entry.words.now at end))) }
+    ensures { MatchOption result (n ≡ index_of (recs_at derived.now.log.now derived.now.logtags.now (take n (row derived.now.starts.now t))) (carried_by (went_r derived.now.maps.now) source.entry.image.tags.now source.entry.image.words.now source.entry.at source.entry.end)) (λ j. (j < n) × (j ≡ index_of (recs_at derived.now.log.now derived.now.logtags.now (take n (row derived.now.starts.now t))) (carried_by (went_r derived.now.maps.now) source.entry.image.tags.now source.entry.image.words.now source.entry.at source.entry.end))) }
 {
-    (0..n).find(|j| equals_record(image, derived, at, end, derived.starts[t][*j] as usize))
+    (0..n).find(|j| equals_record(source, derived, derived.starts[t][*j] as usize))
 }
 
 // What a bucket shows: no record, a record's number, or that records of several numbers have this bucket.
@@ -84,68 +85,58 @@ fn set_bucket(buckets: &mut Buckets, p: usize, k: usize)
 }
 
 // The same as `find`, by bucket p.
-fn find_by_bucket(
-    image: Image,
-    derived: &Derived,
-    at: usize,
-    end: usize,
-    t: usize,
-    p: usize,
-) -> Option<usize>
-    requires readable { Readable image.words.now image.tags.now at end }
-    requires t_bound { (t < 6) × (p ≡ place_r t (carried_by (went_r derived.now.maps.now) image.tags.now image.words.now at end)) × (p < MARKS) }
+fn find_by_bucket(source: ShaderRecord, derived: &Derived, t: usize, p: usize) -> Option<usize>
+    requires t_bound { (t < 6) × (p ≡ place_r t (carried_by (went_r derived.now.maps.now) source.image.tags.now source.image.words.now source.at source.end)) × (p < MARKS) }
     requires valid_arrays { ValidArrays derived.now.log.now derived.now.logtags.now derived.now.starts.now derived.now.maps.now derived.now.buckets.now (going derived.now.sizes) }
-    ensures { MatchOption result (get_or derived.now.sizes.counts t 0 ≡ index_of (recs_at derived.now.log.now derived.now.logtags.now (take (get_or derived.now.sizes.counts t 0) (row derived.now.starts.now t))) (carried_by (went_r derived.now.maps.now) image.entry.tags.now image.entry.words.now at end)) (λ j. (j < get_or derived.now.sizes.counts t 0) × (j ≡ index_of (recs_at derived.now.log.now derived.now.logtags.now (take (get_or derived.now.sizes.counts t 0) (row derived.now.starts.now t))) (carried_by (went_r derived.now.maps.now) image.entry.tags.now image.entry.words.now at end))) }
+    ensures { MatchOption result (get_or derived.now.sizes.counts t 0 ≡ index_of (recs_at derived.now.log.now derived.now.logtags.now (take (get_or derived.now.sizes.counts t 0) (row derived.now.starts.now t))) (carried_by (went_r derived.now.maps.now) source.entry.image.tags.now source.entry.image.words.now source.entry.at source.entry.end)) (λ j. (j < get_or derived.now.sizes.counts t 0) × (j ≡ index_of (recs_at derived.now.log.now derived.now.logtags.now (take (get_or derived.now.sizes.counts t 0) (row derived.now.starts.now t))) (carried_by (went_r derived.now.maps.now) source.entry.image.tags.now source.entry.image.words.now source.entry.at source.entry.end))) }
 {
     let n = derived.sizes.counts[t] as usize;
     let starts = &derived.starts[t];
     match bucket_at(derived.buckets, p) {
         Bucket::Empty => None,
-        Bucket::One(j) if j < n && alike(image, derived, at, end, starts[j] as usize) => Some(j),
+        Bucket::One(j) if j < n && alike(source, derived, starts[j] as usize) => Some(j),
         Bucket::One(_) => None,
-        Bucket::Several => find(image, derived, at, end, t, n),
+        Bucket::Several => find(source, derived, t, n),
     }
 }
 
-// Maps number k of table t to the record that the source's words from `at` to `end` become: an equal one that is found, or a new one.
+// Maps number k of table t to the record that the source's becomes: an equal one that is found, or a new one.
 pub fn intern(
-    source: ShaderSource,
+    source: ShaderRecord,
+    offset: u32,
     derived: &mut DerivedMut,
     ends: Sizes,
     t: usize,
     k: usize,
-    at: usize,
-    end: usize,
 ) -> Result<Sizes, Full>
-    requires readable { Readable source.image.words.now source.image.tags.now at end }
     requires t_bound { (t < 6) × (k < count_at t source.image.words.now) × (k < 512) }
-    requires nameless { t ≡ 0 → Nameless (between source.image.tags.now source.image.words.now at end) }
+    requires nameless { t ≡ 0 → Nameless (between source.image.tags.now source.image.words.now source.at source.end) }
     requires valid_arrays { Valid derived.old ends }
-    ensures { Imports source.entry.image.words.now (settled (tab_of t) k (shift (carried_by (went_r derived.old.maps.now) source.entry.image.tags.now source.entry.image.words.now at end) source.entry.offset false)) derived.old ends result derived.new }
+    ensures { Imports source.entry.image.words.now (settled (tab_of t) k (shift (carried_by (went_r derived.old.maps.now) source.entry.image.tags.now source.entry.image.words.now source.entry.at source.entry.end) offset false)) derived.old ends result derived.new }
 {
     let n = ends.counts[t] as usize;
     let loglen = ends.loglen as usize;
-    let p = bucket_of(source.image, derived.maps, at, end, t);
-    let found = find_by_bucket(source.image, &derived.view(ends), at, end, t, p);
+    let p = bucket_of(source, derived.maps, t);
+    let found = find_by_bucket(source, &derived.view(ends), t, p);
     if let Some(j) = found {
         derived.maps[t][k] = (j + 1) as u32;
         return Ok(ends);
     }
-    if n == 512 || ends.words_left() < 1 + (end - at) {
+    let len = source.len();
+    if n == 512 || ends.words_left() < 1 + len {
         return Err(Full);
     }
-    derived.log[loglen] = (end - at) as u32;
+    derived.log[loglen] = len as u32;
     write(
         source,
+        offset,
         derived.log,
         derived.logtags,
         derived.maps,
-        at,
-        end,
         loglen + 1,
     );
     derived.starts[t][n] = loglen as u32;
     derived.maps[t][k] = (n + 1) as u32;
     set_bucket(derived.buckets, p, n);
-    Ok(ends.with_record(t, 1 + (end - at)))
+    Ok(ends.with_record(t, 1 + len))
 }

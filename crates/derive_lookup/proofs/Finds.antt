@@ -29,9 +29,9 @@ use Rattle.redirect_calls.proofs.Places.{name_is_lem, start_in, many}
 use Rattle.derive_state.specs.Refers.{tab_of}
 use Rattle.derive_state.specs.Flats.{function_of}
 use Rattle.derive_state.specs.Source.{mod_of, src_of, Source}
-use Rattle.derive_state.specs.Held.{recs_at, recs_of, functions_of, st_of, Readable}
+use Rattle.derive_state.specs.Held.{recs_at, recs_of, functions_of, st_of}
 use Rattle.derive_state.specs.Sizes.{Sizes}
-use Rattle.derive_imports.proofs.Sources.{count_few, record_is, readable}
+use Rattle.derive_imports.proofs.Sources.{count_few, record_is}
 use Rattle.derive_lookup.specs.Bearing.{KnownEnsures}
 
 -- ---- every function has a name, and it is in the table
@@ -82,9 +82,6 @@ module _ (words tags : List ℕ) (n : ℕ) (src : Source words tags n) (five : n
       name_few = let a = name_in_lem in let b = count_few words tags n src 0 (omega arith) in omega arith
 
       module _ (from to : ℕ) (hb : from ≡ record_at 0 (v - 1) words) (he : to ≡ record_end 0 (v - 1) words) where
-        pub name_reads : Readable words tags from to
-        name_reads = readable words tags n src 0 (v - 1) (omega arith) name_in_lem from to hb he
-
         name_text_lem : between tags words from to ≡ recT (tables (mod_of words n)) names (pred (name_word (function (mod_of words n) f)))
         unfolding src_of tab_of
         name_text_lem =

@@ -9,7 +9,7 @@ use Rattle.derive_state.specs.Source.{mod_of}
 use Rattle.derive_state.specs.Held.{rec_at, recs_at, Apart, st_of}
 use Rattle.derive_state.specs.Sizes.{Sizes}
 
--- records that start at the first n of these places lie in the log, and no two are alike
+-- records that start at the first n of these places lie in the log, and no two are alike; a part of `Bearing`, and a clause as that is
 pub record Names (log logtags starts : List ℕ) (n : ℕ) : Type 0 where
   pub few : n ≤ 512
   pub log_long : length log ≡ 16384
@@ -31,7 +31,7 @@ pub record Heads (log logtags starts : List ℕ) (n : ℕ) : Type 0 where
   pub within : (k : ℕ) → k < n → suc (get_or starts k 0) < 16384
   pub first : (k : ℕ) → k < n → name_word (function_of (rec_at log logtags (get_or starts k 0))) ≡ get_or log (suc (get_or starts k 0)) 0
 
--- the names and the functions of a state; a clause, and part of `Valid`, which is one for the reason given there
+-- the names and the functions of a state; a clause, for the reason beside `Derived` of derive_state
 pub record Bearing (log logtags : List ℕ) (starts : List (List ℕ)) (e : Sizes) : Type 0 where
   pub names : Names log logtags (get_or starts 0 []) (get_or e.counts 0 0)
   pub functions : Heads log logtags (get_or starts 6 []) (get_or e.counts 6 0)

@@ -11,30 +11,30 @@ ghost use Rattle.model.specs.References.{alike as alikeOf, index_of};
 ghost use Rattle.model.specs.Bodies.{last_of};
 ghost use Rattle.derive_state.specs.Flats.{function_of};
 ghost use Rattle.derive_state.specs.Source.{mod_of, Source};
-ghost use Rattle.derive_state.specs.Held.{row, rec_at, recs_at, Readable};
+ghost use Rattle.derive_state.specs.Held.{row, rec_at, recs_at};
 ghost use Rattle.derive_lookup.specs.Bearing.{Names, Went, Heads, Bearing, KnownEnsures, plus_one};
 ghost use Rattle.derive_state.specs.Sizes.{going};
 
 use base_views::{FUNCTIONS, Image, NAMES};
-use derive_state::{Derived, alike_cell};
+use derive_state::{Derived, ShaderRecord, alike_cell};
 
-// Whether the record at s equals the source's words from `at` to `end`: what `alike` says of a name, which refers to nothing. `alike` carries each word through the
-// maps all the same: with it in this place, linking 940 calls of a function of a long name takes 4.0 % more instructions, and 67 functions that call all lower ones 1.1 %.
-fn equals_name(image: Image, derived: &Derived, at: usize, end: usize, s: usize) -> bool
-    requires readable { Readable image.words.now image.tags.now at end }
-    requires s_bound { (s + suc (get_or derived.now.log.now s 0) ≤ 16384) × (length derived.now.log.now ≡ 16384) × (length derived.now.logtags.now ≡ 16384) }
-    ensures { result ≡ alikeOf (rec_at derived.now.log.now derived.now.logtags.now s) (between image.entry.tags.now image.entry.words.now at end) }
+// Whether the record at s equals the source's: what `alike` says of a name, which refers to nothing. `alike` carries each word through the maps all the same: with it
+// in this place, linking 940 calls of a function of a long name takes 4.0 % more instructions, and 67 functions that call all lower ones 1.1 %.
+// A loop: with `all` in its place, which was proved, a word takes 16 instructions for 12.
+fn equals_name(source: ShaderRecord, derived: &Derived, s: usize) -> bool
+    requires { (s + suc (get_or derived.now.log.now s 0) ≤ 16384) × (length derived.now.log.now ≡ 16384) × (length derived.now.logtags.now ≡ 16384) }
+    ensures { result ≡ alikeOf (rec_at derived.now.log.now derived.now.logtags.now s) (between source.entry.image.tags.now source.entry.image.words.now source.entry.at source.entry.end) }
 {
-    if derived.log[s] as usize != end - at {
+    if derived.log[s] as usize != source.len() {
         return false;
     }
-    for j in at..end {
-        let q = s + 1 + (j - at);
+    for j in source.at..source.end {
+        let q = s + 1 + (j - source.at);
         if !alike_cell(
             derived.logtags[q] as u32,
             derived.log[q],
-            image.tags[j],
-            image.words[j],
+            source.image.tags[j],
+            source.image.words[j],
         ) {
             return false;
         }
@@ -42,40 +42,37 @@ fn equals_name(image: Image, derived: &Derived, at: usize, end: usize, s: usize)
     true
 }
 
-// The first of the n names that equals the source's words from `at` to `end`; or n. A number and no Option: what `known` tells is by its definition the last function
-// that has this number for its name, also where the number is n, and that no function has n is more than `known` requires.
-fn find_name(image: Image, derived: &Derived, at: usize, end: usize) -> usize
-    requires readable { Readable image.words.now image.tags.now at end }
-    requires names { Names derived.now.log.now derived.now.logtags.now (row derived.now.starts.now 0) (get_or derived.now.sizes.counts 0 0) }
-    ensures { (result ≡ index_of (recs_at derived.now.log.now derived.now.logtags.now (take (get_or derived.now.sizes.counts 0 0) (row derived.now.starts.now 0))) (between image.entry.tags.now image.entry.words.now at end)) × (result ≤ 512) }
+// The first of the n names that equals the source's; or n. A number and no Option: what `known` tells is by its definition the last function that has this number for
+// its name, also where the number is n, and that no function has n is more than `known` requires.
+fn find_name(source: ShaderRecord, derived: &Derived) -> usize
+    requires { Names derived.now.log.now derived.now.logtags.now (row derived.now.starts.now 0) (get_or derived.now.sizes.counts 0 0) }
+    ensures { (result ≡ index_of (recs_at derived.now.log.now derived.now.logtags.now (take (get_or derived.now.sizes.counts 0 0) (row derived.now.starts.now 0))) (between source.entry.image.tags.now source.entry.image.words.now source.entry.at source.entry.end)) × (result ≤ 512) }
 {
     let n = derived.sizes.counts[NAMES] as usize;
     (0..n)
-        .find(|j| equals_name(image, derived, at, end, derived.starts[NAMES][*j] as usize))
+        .find(|j| equals_name(source, derived, derived.starts[NAMES][*j] as usize))
         .unwrap_or(n)
 }
 
-// Whether name m - 1 equals the source's words from `at` to `end`.
-fn is_mapped_name(image: Image, derived: &Derived, m: usize, at: usize, end: usize) -> bool
-    requires readable { Readable image.words.now image.tags.now at end }
-    requires names { Names derived.now.log.now derived.now.logtags.now (row derived.now.starts.now 0) (get_or derived.now.sizes.counts 0 0) }
-    ensures { result ≡ true → Went derived.now.log.now derived.now.logtags.now (row derived.now.starts.now 0) (get_or derived.now.sizes.counts 0 0) (between image.entry.tags.now image.entry.words.now at end) m }
+// Whether name m - 1 equals the source's.
+fn is_mapped_name(source: ShaderRecord, derived: &Derived, m: usize) -> bool
+    requires { Names derived.now.log.now derived.now.logtags.now (row derived.now.starts.now 0) (get_or derived.now.sizes.counts 0 0) }
+    ensures { result ≡ true → Went derived.now.log.now derived.now.logtags.now (row derived.now.starts.now 0) (get_or derived.now.sizes.counts 0 0) (between source.entry.image.tags.now source.entry.image.words.now source.entry.at source.entry.end) m }
 {
     let n = derived.sizes.counts[NAMES] as usize;
     let names = &derived.starts[NAMES];
-    m != 0 && m <= n && equals_name(image, derived, at, end, names[m - 1] as usize)
+    m != 0 && m <= n && equals_name(source, derived, names[m - 1] as usize)
 }
 
 // The same as `find_name`, but name m - 1 is tried first.
-fn find_name_from(image: Image, derived: &Derived, m: usize, at: usize, end: usize) -> usize
-    requires readable { Readable image.words.now image.tags.now at end }
-    requires names { Names derived.now.log.now derived.now.logtags.now (row derived.now.starts.now 0) (get_or derived.now.sizes.counts 0 0) }
-    ensures { (result ≡ index_of (recs_at derived.now.log.now derived.now.logtags.now (take (get_or derived.now.sizes.counts 0 0) (row derived.now.starts.now 0))) (between image.entry.tags.now image.entry.words.now at end)) × (result ≤ 512) }
+fn find_name_from(source: ShaderRecord, derived: &Derived, m: usize) -> usize
+    requires { Names derived.now.log.now derived.now.logtags.now (row derived.now.starts.now 0) (get_or derived.now.sizes.counts 0 0) }
+    ensures { (result ≡ index_of (recs_at derived.now.log.now derived.now.logtags.now (take (get_or derived.now.sizes.counts 0 0) (row derived.now.starts.now 0))) (between source.entry.image.tags.now source.entry.image.words.now source.entry.at source.entry.end)) × (result ≤ 512) }
 {
-    if is_mapped_name(image, derived, m, at, end) {
+    if is_mapped_name(source, derived, m) {
         return m - 1;
     }
-    find_name(image, derived, at, end)
+    find_name(source, derived)
 }
 
 // The last function whose first word is w.
@@ -84,13 +81,10 @@ fn last(derived: &Derived, w: u32) -> Option<u32>
     ensures { (plus_one result ≡ last_of (map function_of (recs_at derived.now.log.now derived.now.logtags.now (take (get_or derived.now.sizes.counts 6 0) (row derived.now.starts.now 6)))) 0 0 w) × (plus_one result ≤ get_or derived.now.sizes.counts 6 0) }
 {
     let n = derived.sizes.counts[FUNCTIONS] as usize;
-    for k in (0..n).rev() {
-        let s = derived.starts[FUNCTIONS][k] as usize;
-        if derived.log[s + 1] == w {
-            return Some(k as u32);
-        }
-    }
-    None
+    (0..n)
+        .rev()
+        .find(|k| derived.log[derived.starts[FUNCTIONS][*k] as usize + 1] == w)
+        .map(|k| k as u32)
 }
 
 // The last derived function that has the name of the source's function f.
@@ -105,6 +99,6 @@ pub fn known(image: Image, derived: &Derived, f: usize) -> Option<u32>
     let k = image.words[s] as usize - 1;
     let (at, end) = image.record(NAMES, k);
     let m = derived.maps[NAMES][k] as usize;
-    let d = find_name_from(image, derived, m, at, end);
+    let d = find_name_from(ShaderRecord { image, at, end }, derived, m);
     last(derived, (d + 1) as u32)
 }

@@ -36,7 +36,7 @@ use Rattle.order_callees.proofs.Marking.{picked-one, picked_none, picked-end}
 use Rattle.theory_order.specs.Numbered.{numbered-known, entries_known}
 use Rattle.derive_state.specs.Flats.{no_entry}
 use Rattle.derive_state.specs.Source.{mod_of, Source}
-use Rattle.derive_rings.specs.Rings.{Scannable, Meets, none, here, later}
+use Rattle.derive_rings.specs.Rings.{Scannable}
 
 -- ---- one number
 -- k is one of the set
@@ -141,14 +141,6 @@ module _ (words tags : List ℕ) (n : ℕ) (src : Source words tags n) (f : ℕ)
       }
 
 -- ---- entry points
--- a test of places that are told
-module _ {post : ℕ → ℕ → Bool → Type 0} {words : List ℕ} {e a b : ℕ} {r : Bool} (h : e < count_at 7 words) (ha : a ≡ record_at 7 e words + entry_head_words) (hb : b ≡ record_end 7 e words) (t : post a b r) where
-  pub meets_here : r ≡ true → Meets post words e true
-  meets_here q = here h (rw (← ha, ← hb, ← q) t)
-
-  pub meets_later : r ≡ false → {s : Bool} → Meets post words (e + 1) s → Meets post words e s
-  meets_later q m = later h (rw (← ha, ← hb, ← q) t) m
-
 any_append : (p : ℕ → Bool) (xs ys : List ℕ) → any (xs ++ ys) p ≡ cond (any xs p) true (any ys p)
 unfolding any
 any_append p [] ys = refl
@@ -203,11 +195,14 @@ module _ {words tags : List ℕ} {n : ℕ} (src : Source words tags n) where
       ∙ sym (any_append p (callees (get_or es j no_entry).function) (callees_of (drop (j + 1) es)))
       ∙ ap (λ l. any (callees_of l) p) (sym (drop-cons es j no_entry (omega (arith, many)) ∙ ap (λ i. get_or es j no_entry ∷ drop i es) (sym (add-one j))))
 
-  meets_from : (p : ℕ → Bool) {post : ℕ → ℕ → Bool → Type 0} → ((from to : ℕ) (b : Bool) → post from to b → b ≡ any (picked words tags from to) p) → {j : ℕ} {r : Bool} → Meets post words j r → r ≡ any (callees_of (drop j es)) p
-  unfolding callees_of any
-  meets_from p law (none {e} h) = let q : drop e es ≡ [] = drop_of_length-le es (omega (arith, many)) in rw q refl
-  meets_from p law (here {e} h t) = split p e h (law _ _ true t) refl
-  meets_from p law (later {e} h f m) = split p e h (law _ _ false f) (meets_from p law m)
+  -- whether one of which p holds is called by the function of entry point e
+  abbrev pub entry_calls : (ℕ → Bool) → ℕ → Bool
+  entry_calls p e = any (picked words tags (record_at 7 e words + entry_head_words) (record_end 7 e words)) p
 
-  pub meets_is : (p : ℕ → Bool) {post : ℕ → ℕ → Bool → Type 0} → ((from to : ℕ) (b : Bool) → post from to b → b ≡ any (picked words tags from to) p) → {r : Bool} → Meets post words 0 r → r ≡ any (callees_of es) p
-  meets_is p law m = meets_from p law m
+  entries_from : (p : ℕ → Bool) (d j : ℕ) → j + d ≡ count_at 7 words → list_any (entry_calls p) (range_with_len j d) ≡ any (callees_of (drop j es)) p
+  unfolding callees_of any
+  entries_from p zero j e = let q : drop j es ≡ [] = drop_of_length-le es (omega (arith, many)) in rw q refl
+  entries_from p (suc d) j e = split p j (omega arith) refl (ap (λ (x : Bool). entry_calls p j || x) (entries_from p d (j + 1) (omega arith)) ∙ sym (or_cond (entry_calls p j) _))
+
+  pub entries_are : (p : ℕ → Bool) {c : ℕ} → c ≡ count_at 7 words → list_any (entry_calls p) (range_with_len 0 (c - 0)) ≡ any (callees_of es) p
+  entries_are p {c} h = entries_from p (c - 0) 0 (omega arith)

@@ -1,10 +1,11 @@
 -- Refusal 22 as sets of marks: the functions of unknown name, those of them that are stuck, and whether an import would meet one. None of it depends on maps or
 -- special types, so each holds with all of them.
-use Rattle.std.specs.Prelude.{◌≡◌, Bool, true, false, List, [], ℕ, ◌+◌, ◌≤◌, ◌<◌, length}
+use Rattle.std.specs.Prelude.{◌≡◌, Bool, List, [], ◌∷◌, ℕ, ◌≤◌, ◌<◌, length}
+use Rattle.std.specs.Coded.{le_prop}
+use Rattle.std.proofs.Props.{props}
+use mathlib.Core.Path.{refl}
 use Rattle.model.specs.Module.{count_at}
-use Rattle.model.specs.View.{record_at, record_end}
-use Rattle.model.specs.FunctionView.{entry_head_words}
-use Rattle.model.specs.Carry.{Each}
+use Rattle.model.specs.Carry.{Each, each_none, each_next}
 use Rattle.model.specs.Calls.{keep}
 use Rattle.model.specs.Session.{unknown, stuck, meets_ring}
 use Rattle.order_ranks.specs.Marks.{members, Below}
@@ -33,7 +34,7 @@ pub record Stuck (words : List ℕ) (n : ℕ) (log logtags : List ℕ) (starts :
 pub record RingsEnsures (js : List ℕ) (words : List ℕ) (n : ℕ) (log logtags : List ℕ) (starts : List (List ℕ)) (e : Sizes) (r : Bool) : Type 0 where
   pub is : (maps : List (List ℕ)) (special : List ℕ) → r ≡ meets_ring js (mod_of words n) (st_of words log logtags starts maps special e)
 
--- words and tags are arrays, and what is called between two places is among the first m functions
+-- words and tags are arrays, and what is called between two places is among the first m functions; a ghost field of `Caller`
 pub record Scannable (words tags : List ℕ) (at end m : ℕ) : Type 0 where
   pub words_long : length words ≡ 16384
   pub tags_long : length tags ≡ 16384
@@ -41,8 +42,11 @@ pub record Scannable (words tags : List ℕ) (at end m : ℕ) : Type 0 where
   pub within : end ≤ 16384
   pub known : Each (λ j. j < m) (picked words tags at end)
 
--- whether one of the entry points from number e on meets a test of the words of its function
-pub data Meets (post : ℕ → ℕ → Bool → Type 0) (words : List ℕ) : ℕ → Bool → Type 0 where
-  none : {e : ℕ} → count_at 7 words ≤ e → Meets post words e false
-  here : {e : ℕ} → e < count_at 7 words → post (record_at 7 e words + entry_head_words) (record_end 7 e words) true → Meets post words e true
-  later : {e : ℕ} {r : Bool} → e < count_at 7 words → post (record_at 7 e words + entry_head_words) (record_end 7 e words) false → Meets post words (e + 1) r → Meets post words e r
+-- numbers are below m by one proof at most
+Below-prop : (m : ℕ) (js : List ℕ) → IsProp (Each (λ j. j < m) js)
+Below-prop m [] each_none each_none = refl
+Below-prop m (j ∷ js) (each_next p ps) (each_next q qs) = λ i. each_next (le_prop p q i) (Below-prop m js ps qs i)
+
+-- and words are such by one proof at most
+pub Scannable-prop : (words tags : List ℕ) (at end m : ℕ) → IsProp (Scannable words tags at end m)
+Scannable-prop words tags at end m = hlevel (props, le_prop, Below-prop)

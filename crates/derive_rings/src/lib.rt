@@ -4,7 +4,7 @@
 // there is no such ring.
 #![tactic(auto)]
 
-ghost use Rattle.std.specs.Prelude.{◌≡◌, true, [], ◌∷◌, ℕ, ◌+◌, ◌<◌, eqb};
+ghost use Rattle.std.specs.Prelude.{◌≡◌, true, [], ◌∷◌, ◌+◌, ◌≤◌, ◌<◌, eqb};
 ghost use Rattle.model.specs.Module.{count_at};
 ghost use Rattle.model.specs.View.{record_at, record_end};
 ghost use Rattle.model.specs.FunctionView.{entry_head_words};
@@ -17,7 +17,7 @@ ghost use Rattle.order_ranks.specs.Marks.{members, Below};
 ghost use Rattle.order_callees.specs.Gathering.{picked, Gathered};
 ghost use Rattle.derive_state.specs.Source.{mod_of, Source};
 ghost use Rattle.derive_lookup.specs.Bearing.{Bearing};
-ghost use Rattle.derive_rings.specs.Rings.{unknown_by, Unknowns, Stuck, RingsEnsures, Scannable, Meets};
+ghost use Rattle.derive_rings.specs.Rings.{unknown_by, Unknowns, Stuck, RingsEnsures, Scannable, Scannable-prop};
 ghost use Rattle.derive_state.specs.Sizes.{going};
 
 use base_classes::CALLEE;
@@ -83,46 +83,67 @@ fn stuck(image: Image, derived: &Derived) -> FunctionSet
     unknown_in_ring(image, derived, &callees)
 }
 
-// Whether the words from `at` to `end` call one of a set.
-fn calls_one(image: Image, at: usize, end: usize, set: &FunctionSet) -> bool
-    requires { Scannable image.words.now image.tags.now at end 256 }
-    ensures { result ≡ any (picked image.entry.words.now image.entry.tags.now at end) (λ i. any (members set.now.0) (eqb i)) }
-{
-    (at..end).any(|k| image.tags[k] == CALLEE && set.has(image.words[k] as usize))
+// A function of an image, or that of an entry point: its words lie from `at` to `end`.
+#[derive(Clone, Copy)]
+struct Caller<'a> {
+    image: Image<'a>,
+    at: usize,
+    end: usize,
+    ghost few: { count_at 6 image.words.now ≤ 256 },
+    ghost scannable: { Scannable image.words.now image.tags.now at end (count_at 6 image.words.now) } by { Scannable-prop image.words.now image.tags.now at end (count_at 6 image.words.now) },
 }
 
-// Whether one of the entry points' functions meets a test, which is given where its words start and where they end.
-fn any_entry<F: Fn(usize, usize) -> bool>(image: Image, test: F) -> bool
-    requires source { Source image.words.now image.tags.now image.n }
-    requires tests { (e : ℕ) → e < count_at 7 image.words.now → F.pre test (record_at 7 e image.words.now + entry_head_words) (record_end 7 e image.words.now) }
-    ensures { Meets (F.post test) image.entry.words.now 0 result }
-{
-    for e in 0..count(image.words, ENTRIES) {
-        if test(image.entry_function(e), image.record_end(ENTRIES, e)) {
-            return true;
+impl<'a> Caller<'a> {
+    // Function f.
+    fn of_function(image: Image<'a>, f: usize) -> Caller<'a>
+        requires source { Source image.words.now image.tags.now image.n }
+        requires f_bound { f < count_at 6 image.words.now }
+        ensures { (result.image ≡ image.entry) × (result.at ≡ record_at 6 f image.entry.words.now) × (result.end ≡ record_end 6 f image.entry.words.now) }
+    {
+        let (at, end) = image.record(FUNCTIONS, f);
+        Caller { image, at, end }
+    }
+
+    // The function of entry point e.
+    fn of_entry(image: Image<'a>, e: usize) -> Caller<'a>
+        requires source { Source image.words.now image.tags.now image.n }
+        requires e_bound { e < count_at 7 image.words.now }
+        ensures { (result.image ≡ image.entry) × (result.at ≡ record_at 7 e image.entry.words.now + entry_head_words) × (result.end ≡ record_end 7 e image.entry.words.now) }
+    {
+        Caller {
+            image,
+            at: image.entry_function(e),
+            end: image.record_end(ENTRIES, e),
         }
     }
-    false
+
+    // Whether it calls one of a set.
+    fn calls_one(self, set: &FunctionSet) -> bool
+        ensures { result ≡ any (picked self.entry.image.words.now self.entry.image.tags.now self.entry.at self.entry.end) (λ i. any (members set.now.0) (eqb i)) }
+    {
+        let image = self.image;
+        (self.at..self.end).any(|k| image.tags[k] == CALLEE && set.has(image.words[k] as usize))
+    }
+
+    // Whether it calls a function of unknown name.
+    fn calls_unknown(self, derived: &Derived) -> bool
+        requires source { Source self.image.words.now self.image.tags.now self.image.n }
+        requires n_value { named (mod_of self.image.words.now self.image.n) ≡ true }
+        requires bearing { Bearing derived.now.log.now derived.now.logtags.now derived.now.starts.now (going derived.now.sizes) }
+        ensures { result ≡ any (picked self.entry.image.words.now self.entry.image.tags.now self.entry.at self.entry.end) (unknown_by self.entry.image.words.now self.entry.image.n derived.now.log.now derived.now.logtags.now derived.now.starts.now (going derived.now.sizes)) }
+    {
+        let image = self.image;
+        (self.at..self.end).any(|k| image.tags[k] == CALLEE
+            && is_unknown(image, derived, image.words[k] as usize))
+    }
 }
 
-// Whether the function of an entry point calls one of a set.
+// Whether the function of an entry point calls one of a set. As `entries_lead`, but for the question: one function of both, with the question as a parameter, would be longer than the two.
 fn entries_call(image: Image, set: &FunctionSet) -> bool
     requires { Source image.words.now image.tags.now image.n }
     ensures { result ≡ any (calleesOfAll (mod_of image.entry.words.now image.entry.n).entries) (λ i. any (members set.now.0) (eqb i)) }
 {
-    any_entry(image, |at, end| calls_one(image, at, end, set))
-}
-
-// Whether the words from `at` to `end` call a function of unknown name.
-fn calls_unknown(image: Image, derived: &Derived, at: usize, end: usize) -> bool
-    requires source { Source image.words.now image.tags.now image.n }
-    requires n_value { named (mod_of image.words.now image.n) ≡ true }
-    requires bearing { Bearing derived.now.log.now derived.now.logtags.now derived.now.starts.now (going derived.now.sizes) }
-    requires scannable { Scannable image.words.now image.tags.now at end (count_at 6 image.words.now) }
-    ensures { result ≡ any (picked image.entry.words.now image.entry.tags.now at end) (unknown_by image.entry.words.now image.entry.n derived.now.log.now derived.now.logtags.now derived.now.starts.now (going derived.now.sizes)) }
-{
-    (at..end).any(|k| image.tags[k] == CALLEE
-        && is_unknown(image, derived, image.words[k] as usize))
+    (0..count(image.words, ENTRIES)).any(|e| Caller::of_entry(image, e).calls_one(set))
 }
 
 // Whether function f calls one of unknown name: where not, neither it nor one that it calls is stuck.
@@ -133,8 +154,7 @@ fn calls_unknown_name(image: Image, derived: &Derived, f: usize) -> bool
     requires f_bound { f < count_at 6 image.words.now }
     ensures { result ≡ any (callees_of (function (mod_of image.entry.words.now image.entry.n) f)) (unknown_by image.entry.words.now image.entry.n derived.now.log.now derived.now.logtags.now derived.now.starts.now (going derived.now.sizes)) }
 {
-    let (at, end) = image.record(FUNCTIONS, f);
-    calls_unknown(image, derived, at, end)
+    Caller::of_function(image, f).calls_unknown(derived)
 }
 
 // Refusal 22 of import_function: function f, or one that it calls, is stuck.
@@ -175,7 +195,7 @@ fn entries_lead(image: Image, derived: &Derived) -> bool
     requires bearing { Bearing derived.now.log.now derived.now.logtags.now derived.now.starts.now (going derived.now.sizes) }
     ensures { result ≡ any (calleesOfAll (mod_of image.entry.words.now image.entry.n).entries) (unknown_by image.entry.words.now image.entry.n derived.now.log.now derived.now.logtags.now derived.now.starts.now (going derived.now.sizes)) }
 {
-    any_entry(image, |at, end| calls_unknown(image, derived, at, end))
+    (0..count(image.words, ENTRIES)).any(|e| Caller::of_entry(image, e).calls_unknown(derived))
 }
 
 // Refusal 22 of finishing with entry points: a function that one of them calls is stuck.

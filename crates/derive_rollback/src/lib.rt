@@ -12,15 +12,16 @@ ghost use Rattle.derive_rollback.specs.Answered.{MappedToEnsures};
 
 use base_handles::TypeHandle;
 use base_views::{Image, TYPES};
+use derive_imports::Reference;
 use derive_snapshot::{Snapshot, restore};
 use derive_state::{DerivedMut, Full, Maps, ShaderSource, Sizes, number_of};
 
-// The derived number that number h of table t is mapped to, and 0 where it is to none: no Option, since who asks has just imported it.
-pub fn mapped_to(maps: &Maps, t: usize, h: u32) -> u32
-    requires { (t < 6) × (h < 512) }
-    ensures { MappedToEnsures maps.now t h result }
+// The derived number that a record of a table is mapped to, and 0 where it is to none: no Option, since who asks has just imported it.
+pub fn mapped_to(maps: &Maps, r: Reference) -> u32
+    requires { (r.table < 6) × (r.number < 512) }
+    ensures { MappedToEnsures maps.now r.table r.number result }
 {
-    number_of(maps[t][h as usize])
+    number_of(maps[r.table][r.number as usize])
 }
 
 // Imports a record of a table.
@@ -28,16 +29,15 @@ pub fn import(
     source: ShaderSource,
     derived: &mut DerivedMut,
     ends: Sizes,
-    table: usize,
-    number: u32,
+    r: Reference,
 ) -> Result<Sizes, Full>
     requires source { Source source.image.words.now source.image.tags.now source.image.n }
-    requires number_bound { (table < 6) × (number < count_at table source.image.words.now) }
+    requires number_bound { (r.table < 6) × (r.number < count_at r.table source.image.words.now) }
     requires valid_arrays { Valid derived.old ends }
-    ensures { ImportsOrUndoes source.entry.image.words.now (import_t source.entry.offset (src_of source.entry.image.words.now source.entry.image.n) (tab_of table) number) derived.old ends result derived.new }
+    ensures { ImportsOrUndoes source.entry.image.words.now (import_t source.entry.offset (src_of source.entry.image.words.now source.entry.image.n) (tab_of r.table) r.number) derived.old ends result derived.new }
 {
     let saved = Snapshot::of(source.image.words, &derived.view(ends));
-    let got = derive_imports::import(source, derived, ends, table, number);
+    let got = derive_imports::import(source, derived, ends, r);
     if got.is_err() {
         restore(derived.starts, derived.maps, &saved);
     }
@@ -65,5 +65,9 @@ pub fn rename_type(
         tags: source.image.tags,
         n: source.image.n,
     };
-    import(ShaderSource { image, ..source }, derived, ends, TYPES, h.0)
+    let r = Reference {
+        table: TYPES,
+        number: h.0,
+    };
+    import(ShaderSource { image, ..source }, derived, ends, r)
 }

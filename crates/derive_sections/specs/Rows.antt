@@ -23,12 +23,12 @@ pub record Row (names : ℕ) (log logtags ss : List ℕ) (n : ℕ) : Type 0 wher
   pub few : n ≤ 512
   pub recs : (k : ℕ) → k < n → Rec names log logtags (get_or ss k 0)
 
--- the same of a table whose records' starts stand alone
+-- the same of a table whose records' starts stand alone; a clause, as `Row` is
 pub record Starts (names : ℕ) (log logtags ss : List ℕ) : Type 0 where
   pub few : length ss ≤ 512
   pub recs : (k : ℕ) → k < length ss → Rec names log logtags (get_or ss k 0)
 
--- all tables
+-- all tables; a clause, for the reason beside `Derived` of derive_state
 pub record Rows (names : ℕ) (log logtags : List ℕ) (starts : List (List ℕ)) (counts : List ℕ) : Type 0 where
   pub eight : length starts ≡ 8
   pub eight' : length counts ≡ 8

@@ -1,5 +1,6 @@
 // What setting a source does to the state of a session, beyond intake: nothing is mapped, and the special types of the source are imported in order, the
-// three optional types by their places, then the pairs by their keys. A type whose place or key is derived already is mapped to the derived type.
+// three optional types by their places, then the pairs by their keys. A type whose place or key is derived already is mapped to the derived type. Why `source`, `derived`,
+// `special` and `ends` are four parameters is said in derive_special.
 #![tactic(auto)]
 
 ghost use Rattle.std.specs.Prelude.{◌≡◌, ◌+◌, ◌<◌, replicate};

@@ -1,4 +1,7 @@
 // One special type of a source: derived for its place or key, or, where that is derived already, mapped to the derived type.
+//
+// `source`, `derived`, `special` and `ends` are four parameters here and in derive_source, and no struct: a session and a link have them apart, and would make the struct
+// for one call each; and each contract would have to say that the struct's source and references stay.
 #![tactic(auto)]
 
 ghost use Rattle.std.specs.Prelude.{◌≡◌, ◌+◌, ◌≤◌, ◌<◌};
@@ -11,7 +14,7 @@ ghost use Rattle.derive_state.specs.Sizes.{going};
 
 use base_handles::TypeHandle;
 use base_views::TYPES;
-use derive_imports::import;
+use derive_imports::{Reference, import};
 use derive_state::{DerivedMut, Full, ShaderSource, Sizes, Special};
 
 // Derives the source's optional type w, for place k of the three.
@@ -39,7 +42,11 @@ pub fn ray(
         derived.maps[TYPES][i] = v;
         return Ok(ends);
     }
-    let got = import(source, derived, ends, TYPES, h)?;
+    let r = Reference {
+        table: TYPES,
+        number: h,
+    };
+    let got = import(source, derived, ends, r)?;
     special.set_ray(k, derived.maps[TYPES][i]);
     Ok(got)
 }
@@ -64,7 +71,11 @@ pub fn pair(
         derived.maps[TYPES][i] = d + 1;
         return Ok(ends);
     }
-    let got = import(source, derived, ends, TYPES, h.0)?;
+    let r = Reference {
+        table: TYPES,
+        number: h.0,
+    };
+    let got = import(source, derived, ends, r)?;
     let p = got.pairs as usize;
     if p == 512 || got.words_left() < 2 {
         return Err(Full);

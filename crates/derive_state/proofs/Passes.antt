@@ -11,7 +11,7 @@ use Rattle.intake_distinct.specs.Places.{mix, mixed}
 use Rattle.theory_image.specs.Betweens.{between_none, between_next}
 use Rattle.derive_state.specs.Refers.{Small}
 use Rattle.derive_state.specs.Marks.{hash_r}
-use Rattle.derive_state.specs.Held.{rec_at, recs_at, Readable, carried_by, Written}
+use Rattle.derive_state.specs.Held.{rec_at, recs_at, carried_by, Written}
 
 -- ---- stretches
 pub length-beside : (ss ws : List ℕ) → length ss ≡ length ws → length (beside ss ws) ≡ length ss
@@ -64,45 +64,34 @@ pub following_none : (went : Place → ℕ → ℕ) (tags words : List ℕ) (i e
 unfolding first_word
 following_none went tags words i end h = rw (carried-nothing went tags words i end h)
 
--- a record's words but for the first
-pub read_next : (words tags : List ℕ) (i end : ℕ) → Readable words tags i end → i < end → Readable words tags (i + 1) end
-read_next words tags i end R h =
-    let s = R.stretch in
-    record {
-      stretch = record { rising = omega arith; small = s.small; in_words = s.in_words; in_tags = s.in_tags };
-      words_long = R.words_long;
-      tags_long = R.tags_long;
-      small = rw add-one (all-next tags words i end h s.in_tags s.in_words Small R.small);
-    }
-
 -- ---- hashing
 module _ (words tags : List ℕ) (went : Place → ℕ → ℕ) (at end t : ℕ) where
   pub record Hashing (h i : ℕ) : Type 0 where
     pub within : i ≤ end
     pub small : h < 2 ^ 24
-    pub readable : Readable words tags i end
+    pub good : All Small (refs (between tags words i end))
     pub left : mixed (map word (bare (carried_by went tags words i end))) h ≡ hash_r t (carried_by went tags words at end)
 
-  pub hash-begin : Readable words tags at end → t < 8 → Hashing t at
-  unfolding hash_r
-  hash-begin R h = record { within = R.stretch.rising; small = omega arith; readable = R; left = refl }
+  module _ (st : Stretch words tags at end) where
+    pub hash-begin : All Small (refs (between tags words at end)) → t < 8 → Hashing t at
+    unfolding hash_r
+    hash-begin gd h = record { within = st.rising; small = omega arith; good = gd; left = refl }
 
-  module _ (h i : ℕ) (inv : Hashing h i) where
-    pub hash_done : end ≤ i → h ≡ hash_r t (carried_by went tags words at end)
-    unfolding mixed bare
-    hash_done l = rw (carried-nothing went tags words i end l) at inv.left
-
-    module _ (less : i < end) where
-      pub hash_small : All Small (ref_of (target (get_or tags i 0)) (get_or words i 0) [])
-      hash_small = let R = inv.readable in all_here tags words i end less R.stretch.in_tags R.stretch.in_words Small R.small
-
-      pub hash-next : (w : ℕ) → w ≡ through went (get_or tags i 0) (get_or words i 0) → (b : ℕ) → b ≡ bare_w (target (get_or tags i 0)) w → (r : ℕ) → (r ≡ mix h b) × (r < 2 ^ 24) → Hashing r (i + 1)
+    module _ (h i : ℕ) (inv : Hashing h i) where
+      pub hash_done : end ≤ i → h ≡ hash_r t (carried_by went tags words at end)
       unfolding mixed bare
-      hash-next w we b be r re =
-          let R = inv.readable in
-          let c = carried-next tags words i end less R.stretch.in_tags R.stretch.in_words went in
-          let a = rw c at inv.left in
-          record { within = omega arith; small = re.1; readable = read_next words tags i end R less; left = rw (re.0, be, we, add-one i) a }
+      hash_done l = rw (carried-nothing went tags words i end l) at inv.left
+
+      module _ (less : i < end) where
+        pub hash_small : All Small (ref_of (target (get_or tags i 0)) (get_or words i 0) [])
+        hash_small = all_here tags words i end less st.in_tags st.in_words Small inv.good
+
+        pub hash-next : (w : ℕ) → w ≡ through went (get_or tags i 0) (get_or words i 0) → (b : ℕ) → b ≡ bare_w (target (get_or tags i 0)) w → (r : ℕ) → (r ≡ mix h b) × (r < 2 ^ 24) → Hashing r (i + 1)
+        unfolding mixed bare
+        hash-next w we b be r re =
+            let c = carried-next tags words i end less st.in_tags st.in_words went in
+            let a = rw c at inv.left in
+            record { within = omega arith; small = re.1; good = rw add-one (all-next tags words i end less st.in_tags st.in_words Small inv.good); left = rw (re.0, be, we, add-one i) a }
 
 -- ---- comparing
 alike-short : (a b : Cells) → (length a ≡ length b → ⊥) → alike a b ≡ false

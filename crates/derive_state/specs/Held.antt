@@ -8,13 +8,11 @@ use Rattle.model.specs.Outcome.{Cells, class, word}
 use Rattle.model.specs.Table.{NAME}
 use Rattle.model.specs.Tree.{Function, Entry, flat, flat_entry}
 use Rattle.model.specs.Module.{count_at}
-use Rattle.model.specs.Between.{between, Stretch}
+use Rattle.model.specs.Between.{between}
 use Rattle.model.specs.Carry.{carry_cells, Each}
 use Rattle.model.specs.Tables.{Tab, code_t, six, Tables, count, Maps}
-use Rattle.model.specs.References.{Place, refs, through, index_of}
+use Rattle.model.specs.References.{Place, through, index_of}
 use Rattle.model.specs.Imports.{Derived}
-use Rattle.theory_records.specs.RecordLaws.{All}
-use Rattle.derive_state.specs.Refers.{Small}
 use Rattle.derive_state.specs.Flats.{function_of, entry_of, special_of}
 use Rattle.derive_state.specs.Marks.{MARKS, Marked, Marks}
 use Rattle.derive_state.specs.Sizes.{Sizes, going, told}
@@ -197,13 +195,6 @@ pub record ImportsOrUndoes (words : List ℕ) (f : Derived → Derived) (d : Der
   pub same : SameArrays d d'
 
 -- ---- a record of the source on its way
--- it lies in words and tags, and its numbers are in rows; a clause, since of one source there are many such stretches
-pub record Readable (words tags : List ℕ) (at end : ℕ) : Type 0 where
-  pub stretch : Stretch words tags at end
-  pub words_long : length words ≡ 16384
-  pub tags_long : length tags ≡ 16384
-  pub small : All Small (refs (between tags words at end))
-
 -- source cells, where `went` says what numbers are mapped to
 unfoldable pub carried_by : (Place → ℕ → ℕ) → List ℕ → List ℕ → ℕ → ℕ → Cells
 carried_by went tags words at end = carry_cells (through went) (between tags words at end)

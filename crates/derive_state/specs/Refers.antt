@@ -1,7 +1,9 @@
 -- What a word refers to, as the code has it: the code of a table, and what the numbers of the source are mapped to by rows of words.
-use Rattle.std.specs.Prelude.{ℕ, zero, suc, ◌+◌, ◌<◌, List, [], slice_index, slice_index_or}
+use Rattle.std.specs.Coded.{×_prop, Unit-prop, le_prop}
+use Rattle.std.specs.Prelude.{ℕ, zero, suc, ◌+◌, ◌<◌, List, [], ◌∷◌, slice_index, slice_index_or}
 use Rattle.model.specs.Tables.{Tab, names, types, constants, overrides, globals, exprs, code_t}
 use Rattle.model.specs.References.{Place, table, own, function, Target, copied, start, upto, ref, opt, target, Node}
+use Rattle.theory_records.specs.RecordLaws.{All}
 use Rattle.derive_state.specs.declared.Target.{Target as Target'}
 use Rattle.derive_state.specs.declared.Target.TheVariants as code
 
@@ -60,3 +62,8 @@ went_r rows p n = slice_index (slice_index_or rows (code_p p) []) n
 -- a number that a row has
 abbrev pub Small : Node → Type 0
 Small j = j.num < 512
+
+-- that all numbers of a list are such has one proof at most
+pub small_prop : (js : List Node) → IsProp (All Small js)
+small_prop [] = Unit-prop
+small_prop (j ∷ js) = ×_prop le_prop (small_prop js)

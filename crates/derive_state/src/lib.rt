@@ -9,7 +9,7 @@ ghost use Rattle.model.specs.References.{target, ref_of, through, undefined_at, 
 ghost use Rattle.theory_records.specs.RecordLaws.{All, bare_w};
 ghost use Rattle.derive_state.specs.Refers.{means, unspanned, InTable, went_r, Small};
 ghost use Rattle.derive_state.specs.Marks.{MARKS, hash_r, place_r};
-ghost use Rattle.derive_state.specs.Held.{rec_at, Readable, Written, carried_by};
+ghost use Rattle.derive_state.specs.Held.{rec_at, Written, carried_by};
 ghost use Rattle.base_refusals.specs.declared.Refusal.TheVariants.{Full as full};
 
 use base_classes::{SPAN, UPTO};
@@ -18,8 +18,10 @@ use base_views::{CONSTANTS, EXPRESSIONS, GLOBALS, Image, NAMES, OVERRIDES, TYPES
 use intake_distinct::mix;
 use std::num::wrapping_add_u32;
 
+mod shader_record;
 mod special_types;
 
+pub use shader_record::ShaderRecord;
 pub use special_types::Special;
 
 // The words of all derived records.
@@ -121,7 +123,8 @@ impl From<Full> for Refusal {
     }
 }
 
-// The derived module for those that only read it: the arrays, and how much of them is in use.
+// The derived module for those that only read it: the arrays, and how much of them is in use. What they hold is in clauses: a function is looked for in a module that is
+// built, whose names differ, and finishing makes another of the records that it chooses, of which less is asked.
 #[derive(Clone, Copy)]
 pub struct Derived<'a> {
     pub log: &'a Log,
@@ -248,19 +251,18 @@ pub fn alike_cell(a: u32, x: u32, b: u8, y: u32) -> bool
     a == b as u32 && (x == y || is_span(b))
 }
 
-// Whether the record at s is what the source's words from `at` to `end` become, ignoring spans.
-pub fn alike(image: Image, derived: &Derived, at: usize, end: usize, s: usize) -> bool
-    requires readable { Readable image.words.now image.tags.now at end }
-    requires s_bound { (s + suc (slice_index derived.now.log.now s) ≤ 16384) × (length derived.now.log.now ≡ 16384) × (length derived.now.logtags.now ≡ 16384) }
-    ensures { result ≡ alikeOf (rec_at derived.now.log.now derived.now.logtags.now s) (carried_by (went_r derived.now.maps.now) image.entry.tags.now image.entry.words.now at end) }
+// Whether the record at s is what the source's record becomes, ignoring spans. A loop: with `all` in its place, which was proved, a word takes three instructions more.
+pub fn alike(source: ShaderRecord, derived: &Derived, s: usize) -> bool
+    requires { (s + suc (slice_index derived.now.log.now s) ≤ 16384) × (length derived.now.log.now ≡ 16384) × (length derived.now.logtags.now ≡ 16384) }
+    ensures { result ≡ alikeOf (rec_at derived.now.log.now derived.now.logtags.now s) (carried_by (went_r derived.now.maps.now) source.entry.image.tags.now source.entry.image.words.now source.entry.at source.entry.end) }
 {
-    if derived.log[s] as usize != end - at {
+    if derived.log[s] as usize != source.len() {
         return false;
     }
-    for j in at..end {
-        let q = s + 1 + (j - at);
-        let b = image.tags[j];
-        let y = carried(derived.maps, b, image.words[j]);
+    for j in source.at..source.end {
+        let q = s + 1 + (j - source.at);
+        let b = source.image.tags[j];
+        let y = carried(derived.maps, b, source.image.words[j]);
         if !alike_cell(derived.logtags[q] as u32, derived.log[q], b, y) {
             return false;
         }
@@ -275,27 +277,25 @@ fn bare_word(s: u8, w: u32) -> u32
     if is_span(s) { 0 } else { w }
 }
 
-// The hash of what the source's words become in table t.
-fn hash(image: Image, maps: &Maps, at: usize, end: usize, t: usize) -> usize
-    requires readable { Readable image.words.now image.tags.now at end }
-    requires t_bound { t < 8 }
-    ensures { result ≡ hash_r t (carried_by (went_r maps.now) image.entry.tags.now image.entry.words.now at end) }
+// The hash of what the source's record becomes in table t.
+fn hash(source: ShaderRecord, maps: &Maps, t: usize) -> usize
+    requires { t < 8 }
+    ensures { result ≡ hash_r t (carried_by (went_r maps.now) source.entry.image.tags.now source.entry.image.words.now source.entry.at source.entry.end) }
 {
     let mut h = t;
-    for j in at..end {
-        let s = image.tags[j];
-        h = mix(h, bare_word(s, carried(maps, s, image.words[j])));
+    for j in source.at..source.end {
+        let s = source.image.tags[j];
+        h = mix(h, bare_word(s, carried(maps, s, source.image.words[j])));
     }
     h
 }
 
 // Its place among the buckets.
-pub fn bucket_of(image: Image, maps: &Maps, at: usize, end: usize, t: usize) -> usize
-    requires readable { Readable image.words.now image.tags.now at end }
-    requires t_bound { t < 8 }
-    ensures { (result ≡ place_r t (carried_by (went_r maps.now) image.entry.tags.now image.entry.words.now at end)) × (result < MARKS) }
+pub fn bucket_of(source: ShaderRecord, maps: &Maps, t: usize) -> usize
+    requires { t < 8 }
+    ensures { (result ≡ place_r t (carried_by (went_r maps.now) source.entry.image.tags.now source.entry.image.words.now source.entry.at source.entry.end)) × (result < MARKS) }
 {
-    hash(image, maps, at, end, t) % 16384
+    hash(source, maps, t) % 16384
 }
 
 // Whether the span last met is undefined, once the word w of the class s is read, which `next` follows.
@@ -316,41 +316,40 @@ pub fn moved(s: u8, w: u32, offset: u32, u: bool) -> u32
     }
 }
 
-// What word i of the source becomes; 0 at the end.
-fn carried_or_end(image: Image, maps: &Maps, i: usize, end: usize) -> u32
-    requires readable { Readable image.words.now image.tags.now i end }
-    ensures { result ≡ first_word (carried_by (went_r maps.now) image.entry.tags.now image.entry.words.now i end) }
+// What word i of the source's record becomes; 0 at the end.
+fn carried_or_end(source: ShaderRecord, maps: &Maps, i: usize) -> u32
+    requires { source.at ≤ i }
+    ensures { result ≡ first_word (carried_by (went_r maps.now) source.entry.image.tags.now source.entry.image.words.now i source.entry.end) }
 {
-    if i < end {
-        carried(maps, image.tags[i], image.words[i])
+    if i < source.end {
+        carried(maps, source.image.tags[i], source.image.words[i])
     } else {
         0
     }
 }
 
-// Writes what the source's words from `at` to `end` become to the log, from `to` on. It takes the two arrays that it writes, not the module: what stays needs no
-// clause so.
+// Writes what the source's record becomes to the log, from `to` on. It takes the two arrays that it writes, not the module: what stays needs no clause so.
+// `function_builder` has this loop and its `carried_or_end` for a stack: one function of both would take what a word becomes and where it is put as two closures,
+// which are all of the loop but three lines.
 pub fn write(
-    source: ShaderSource,
+    source: ShaderRecord,
+    offset: u32,
     log: &mut Log,
     logtags: &mut LogTags,
     maps: &Maps,
-    at: usize,
-    end: usize,
     to: usize,
 )
-    requires readable { Readable source.image.words.now source.image.tags.now at end }
-    requires at_bound { (to + (end - at) ≤ 16384) × (length log.old ≡ 16384) × (length logtags.old ≡ 16384) }
-    ensures { Written (shift (carried_by (went_r maps.now) source.entry.image.tags.now source.entry.image.words.now at end) source.entry.offset false) to log.old logtags.old log.new logtags.new }
+    requires { (to + (source.end - source.at) ≤ 16384) × (length log.old ≡ 16384) × (length logtags.old ≡ 16384) }
+    ensures { Written (shift (carried_by (went_r maps.now) source.entry.image.tags.now source.entry.image.words.now source.entry.at source.entry.end) offset false) to log.old logtags.old log.new logtags.new }
 {
     let mut u = false;
-    let mut w = carried_or_end(source.image, maps, at, end);
-    for j in at..end {
-        let q = to + (j - at);
+    let mut w = carried_or_end(source, maps, source.at);
+    for j in source.at..source.end {
+        let q = to + (j - source.at);
         let s = source.image.tags[j];
-        let next = carried_or_end(source.image, maps, j + 1, end);
+        let next = carried_or_end(source, maps, j + 1);
         u = undefined_at(s, w, next, u);
-        log[q] = moved(s, w, source.offset, u);
+        log[q] = moved(s, w, offset, u);
         logtags[q] = s;
         w = next;
     }

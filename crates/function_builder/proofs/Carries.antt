@@ -2,7 +2,8 @@
 use mathlib.Core.Path.{◌≡◌, refl, sym, ◌∙◌}
 use mathlib.Core.Bool.{Bool, true, false}
 use mathlib.Core.List.{List, []}
-use Prim.Native.Nat.{ℕ, zero, suc, ◌<◌}
+use Prim.Native.Nat.{ℕ, zero, suc, ◌-◌, ◌≤◌, ◌<◌}
+use lib.ListN.{get_or}
 use native.Mathlib.Omega.{arith}
 use lib.Dec.{ltb}
 use borrow.Author.Tests.{ltb-true, ltb-false}
@@ -15,7 +16,8 @@ use Rattle.derive_state.specs.Refers.{means, unspanned, InTable, tab_of, code_p,
 use Rattle.derive_state.specs.Sizes.{Sizes}
 use Rattle.derive_state.proofs.Classes.{kind_small, code_meant, refs_meant, through_meant}
 use Rattle.derive_state.proofs.State.{code_low}
-use Rattle.function_references.specs.Fits.{Fits, FitN}
+use Rattle.derive_state.proofs.Unlike.{all-at}
+use Rattle.function_references.specs.Fits.{Fits, FitN, Legible}
 use Rattle.function_builder.specs.Stacks.{went_by, went_of}
 
 -- ---- what classes refer to
@@ -93,3 +95,7 @@ module _ (words : List ℕ) (n : ℕ) (log logtags : List ℕ) (starts maps : Li
   pub through-by : (s w : ℕ) → (target_of (target s) ≡ 7 → ⊥) → through (went_by maps exprmap) s w ≡ through U s w
   unfolding through
   through-by s w ne = by-W (target s) w ne (kind_few s)
+
+-- ---- the reference of a word of a piece fits
+pub fits_at : {words tags : List ℕ} {at end : ℕ} → Legible words tags 1024 at end → (i : ℕ) → at ≤ i → i < end → All (FitN words 1024) (ref_of (target (get_or tags i 0)) (get_or words i 0) [])
+fits_at {words} {tags} {at} {end} L i l h = all-at tags words end L.stretch.in_tags L.stretch.in_words (FitN words 1024) i h (i - at) at (omega arith) L.fits

@@ -1,7 +1,7 @@
 -- The first of a record's words that an expression on the stack has not, as the library's search finds it.
 use mathlib.Core.Path.{◌≡◌, refl}
 use mathlib.Core.Bool.{Bool, true, false, not}
-use mathlib.Core.List.{List, []}
+use mathlib.Core.List.{List}
 use Prim.Native.Nat.{ℕ, zero, suc, ◌+◌, ◌-◌, ◌≤◌, ◌<◌}
 use native.Mathlib.Nat.{le_refl}
 use native.Mathlib.Omega.{arith}
@@ -11,18 +11,12 @@ use Rattle.std.specs.Prelude.{Option, None, Some, MatchOption, cond}
 use Rattle.std.specs.Option.{option_map}
 use Rattle.std.specs.List.{find, range_with_len}
 use Rattle.model.specs.Between.{between}
-use Rattle.model.specs.References.{Place, target, ref_of, through, alike_c, alike}
-use Rattle.theory_records.specs.RecordLaws.{All}
+use Rattle.model.specs.References.{Place, through, alike_c, alike}
 use Rattle.derive_state.specs.Held.{carried_by}
 use Rattle.derive_state.proofs.Passes.{Compares, compares_begin, compares_not, compares_next, compares_done}
-use Rattle.derive_state.proofs.Unlike.{all-at}
 use Rattle.function_references.specs.Fits.{FitN, Legible}
 
 module _ (words tags log logtags : List ℕ) (went : Place → ℕ → ℕ) (at end a b : ℕ) (L : Legible words tags 1024 at end) where
-  -- a word's reference fits
-  pub fits_at : (j : ℕ) → at ≤ j → j < end → All (FitN words 1024) (ref_of (target (get_or tags j 0)) (get_or words j 0) [])
-  fits_at j l h = all-at tags words end L.stretch.in_tags L.stretch.in_words (FitN words 1024) j h (j - at) at (omega arith) L.fits
-
   module _ (rising : a ≤ b) (in_log : b ≤ 16384) (log_long : length log ≡ 16384) (logtags_long : length logtags ≡ 16384) (even : b - a ≡ end - at) where
     abbrev pub differs : ℕ → Bool
     differs j = not (alike_c (get_or logtags (a + (j - at)) 0, get_or log (a + (j - at)) 0) (get_or tags j 0, through went (get_or tags j 0) (get_or words j 0)))

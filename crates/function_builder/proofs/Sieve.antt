@@ -1,7 +1,7 @@
 -- Finding an expression on the stack that equals a record: most differ from it in their lengths, or in one word of the record.
 use mathlib.Core.Path.{◌≡◌, refl, sym, ◌∙◌}
 use mathlib.Core.Bool.{Bool, true, false, true≢false, ◌||◌, ◌&&◌}
-use mathlib.Core.List.{List, []}
+use mathlib.Core.List.{List}
 use Prim.Native.Nat.{ℕ, zero, suc, ◌+◌, ◌-◌, ◌≤◌, ◌<◌}
 use native.Mathlib.Nat.{le_refl, le_of_lt}
 use native.Mathlib.Omega.{arith}
@@ -11,20 +11,18 @@ use borrow.Author.Tests.{ltb-true, ltb-false, eqb-true, eqb-false, lt-ltb, eq-eq
 use Rattle.std.specs.Prelude.{Option, None, Some, MatchOption, cond}
 use Rattle.std.specs.Option.{option_map}
 use Rattle.std.specs.List.{find, range_with_len}
-use Rattle.model.specs.Outcome.{Cells}
 use Rattle.model.specs.Between.{between}
-use Rattle.model.specs.References.{Place, target, ref_of, through, alike_c, alike, index_of}
-use Rattle.theory_records.specs.RecordLaws.{All}
+use Rattle.model.specs.References.{Place, through, alike_c, alike, index_of}
 use Rattle.derive_state.specs.Held.{row, cell, carried_by}
 use Rattle.derive_state.specs.Sizes.{Sizes}
 use Rattle.derive_state.proofs.Classes.{alike-class, alike_span}
 use Rattle.derive_state.proofs.Passes.{compares_short}
-use Rattle.derive_state.proofs.Unlike.{all-at, unlike}
+use Rattle.derive_state.proofs.Unlike.{unlike}
 use Rattle.function_references.specs.Fits.{FitN, Legible}
 use Rattle.function_references.specs.Cuts.{next_of, Rising}
 use Rattle.function_builder.specs.Stacks.{seats_of, made_of, Stacks}
 use Rattle.function_builder.specs.Makes.{Hops}
-use Rattle.function_builder.proofs.Stacked.{Seating, seat_room, seat_first, seat_at, seat_within, seat_found, seat_more, seat_last}
+use Rattle.function_builder.proofs.Stacked.{Seating, seat_first, seat_at, seat_within, seat_found, seat_more, seat_last}
 
 -- ---- a word that is another, and no span's
 word_not : (c x s y : ℕ) → (eqb s 81 || eqb s 82) ≡ false → (x ≡ y → ⊥) → alike_c (c, x) (s, y) ≡ false
@@ -77,6 +75,10 @@ module _ (stacks : List (List ℕ)) (e₁ made i s y k : ℕ) (n : (eqb s 81 || 
   is_candidate h None e = rw (← e) at (sought (made - k) k (omega arith) (hop_none stacks e₁ made i s y k h))
   is_candidate h (Some x) e = rw (← e) at (sought (made - k) k (omega arith) (hop_none stacks e₁ made i s y k h))
 
+-- ---- where an expression on the stack ends that is as long as a piece
+pub even_end : {a b n : ℕ} → a < b → b - a ≡ n → b ≡ a + n
+even_end l e = omega arith
+
 -- ---- what is left from expression k on is the whole; the record's word at p becomes y
 pub record Sieving (words tags : List ℕ) (went : Place → ℕ → ℕ) (at end : ℕ) (stacks : List (List ℕ)) (e₁ : ℕ) (e : Sizes) (k p y : ℕ) : Type 0 where
   pub seating : Seating stacks e₁ e (carried_by went tags words at end) k
@@ -84,42 +86,33 @@ pub record Sieving (words tags : List ℕ) (went : Place → ℕ → ℕ) (at en
   pub high : p < end
   pub word : y ≡ through went (get_or tags p 0) (get_or words p 0)
 
-module _ (words tags : List ℕ) (went : Place → ℕ → ℕ) (at end : ℕ) (stacks : List (List ℕ)) (e₁ : ℕ) (e : Sizes) (L : Legible words tags 1024 at end) (S : Stacks stacks e) (R : Rising (seats_of stacks e₁ e) e₁ e.exprtop) (many : length (seats_of stacks e₁ e) ≡ e.made) where
-  abbrev C : Cells
-  C = carried_by went tags words at end
-
-  pub sieve_room : e₁ + e.made ≤ 16384
-  sieve_room = seat_room stacks e₁ e C S R many
-
-  pub sieve_fits : (p : ℕ) → at ≤ p → p < end → All (FitN words 1024) (ref_of (target (get_or tags p 0)) (get_or words p 0) [])
-  sieve_fits p l h = all-at tags words end L.stretch.in_tags L.stretch.in_words (FitN words 1024) p h (p - at) at (omega arith) L.fits
-
+module _ {words tags : List ℕ} {went : Place → ℕ → ℕ} {at end : ℕ} {stacks : List (List ℕ)} {e₁ : ℕ} {e : Sizes} (L : Legible words tags 1024 at end) (S : Stacks stacks e) (R : Rising (seats_of stacks e₁ e) e₁ e.exprtop) (many : length (seats_of stacks e₁ e) ≡ e.made) where
   pub sieve_first : at < end → (y : ℕ) → y ≡ through went (get_or tags (end - 1) 0) (get_or words (end - 1) 0) → Sieving words tags went at end stacks e₁ e 0 (end - 1) y
-  sieve_first h y ye = record { seating = seat_first stacks e₁ e C S R many; low = omega arith; high = omega arith; word = ye }
+  sieve_first h y ye = record { seating = seat_first stacks e₁ e (carried_by went tags words at end) S R many; low = omega arith; high = omega arith; word = ye }
 
-  module _ (k p y : ℕ) (G : Sieving words tags went at end stacks e₁ e k p y) where
+  module _ {k p y : ℕ} (G : Sieving words tags went at end stacks e₁ e k p y) where
     pub sieve_word : p < 16384
     sieve_word = let h = G.high in let l = L.stretch.small in omega arith
 
-    pub sieve_last : e.made ≤ k → e.made ≡ index_of (made_of stacks e₁ e) C
-    sieve_last h = seat_last stacks e₁ e C S R many k G.seating h
+    pub sieve_last : e.made ≤ k → e.made ≡ index_of (made_of stacks e₁ e) (carried_by went tags words at end)
+    sieve_last h = seat_last stacks e₁ e (carried_by went tags words at end) S R many k G.seating h
 
     pub sieve_seat : k < e.made → e₁ + k < 16384
-    sieve_seat h = seat_at stacks e₁ e C S R many k G.seating h
+    sieve_seat h = seat_at stacks e₁ e (carried_by went tags words at end) S R many k G.seating h
 
-    module _ (h : k < e.made) (a b : ℕ) (ha : a ≡ get_or (row stacks 2) (e₁ + k) 0) (hb : b ≡ next_of (drop (k + 1) (seats_of stacks e₁ e)) e.exprtop) where
+    module _ (h : k < e.made) {a b : ℕ} (ha : a ≡ get_or (row stacks 2) (e₁ + k) 0) (hb : b ≡ next_of (drop (k + 1) (seats_of stacks e₁ e)) e.exprtop) where
       pub sieve_within : (a < b) × (b ≤ 16384)
-      sieve_within = seat_within stacks e₁ e C S R many k G.seating h a b ha hb
+      sieve_within = seat_within stacks e₁ e (carried_by went tags words at end) S R many k G.seating h a b ha hb
 
       -- it is the one, or not
-      pub sieve_found : true ≡ alike (between (row stacks 1) (row stacks 0) a b) C → k ≡ index_of (made_of stacks e₁ e) C
-      sieve_found q = seat_found stacks e₁ e C S R many k G.seating h a b ha hb true q refl
+      pub sieve_found : true ≡ alike (between (row stacks 1) (row stacks 0) a b) (carried_by went tags words at end) → k ≡ index_of (made_of stacks e₁ e) (carried_by went tags words at end)
+      sieve_found q = seat_found stacks e₁ e (carried_by went tags words at end) S R many k G.seating h a b ha hb true q refl
 
-      pub sieve_more : (d : ℕ) → (at ≤ d) × (d < end) × (false ≡ alike (between (row stacks 1) (row stacks 0) a b) C) → (z : ℕ) → z ≡ through went (get_or tags d 0) (get_or words d 0) → Sieving words tags went at end stacks e₁ e (k + 1) d z
-      sieve_more d f z ze = record { seating = seat_more stacks e₁ e C S R many k G.seating h a b ha hb false f.2 refl; low = f.0; high = f.1; word = ze }
+      pub sieve_more : (d : ℕ) → (at ≤ d) × (d < end) × (false ≡ alike (between (row stacks 1) (row stacks 0) a b) (carried_by went tags words at end)) → (z : ℕ) → z ≡ through went (get_or tags d 0) (get_or words d 0) → Sieving words tags went at end stacks e₁ e (k + 1) d z
+      sieve_more d f z ze = record { seating = seat_more stacks e₁ e (carried_by went tags words at end) S R many k G.seating h a b ha hb false f.2 refl; low = f.0; high = f.1; word = ze }
 
-      passed : false ≡ alike (between (row stacks 1) (row stacks 0) a b) C → Sieving words tags went at end stacks e₁ e (k + 1) p y
-      passed q = record { seating = seat_more stacks e₁ e C S R many k G.seating h a b ha hb false q refl; low = G.low; high = G.high; word = G.word }
+      passed : false ≡ alike (between (row stacks 1) (row stacks 0) a b) (carried_by went tags words at end) → Sieving words tags went at end stacks e₁ e (k + 1) p y
+      passed q = record { seating = seat_more stacks e₁ e (carried_by went tags words at end) S R many k G.seating h a b ha hb false q refl; low = G.low; high = G.high; word = G.word }
 
       -- it is not as long
       pub sieve_short : (b - a ≡ end - at → ⊥) → Sieving words tags went at end stacks e₁ e (k + 1) p y
@@ -153,12 +146,12 @@ module _ (words tags : List ℕ) (went : Place → ℕ → ℕ) (at end : ℕ) (
           go false q = sieve_short (eqb-false (b - a) (end - at) q)
 
   -- those that are passed
-  module _ (p y k₀ r : ℕ) (H : Hops stacks e₁ e.made (p - at) (get_or tags p 0) y k₀ r) where
+  module _ {p y k₀ r : ℕ} (H : Hops stacks e₁ e.made (p - at) (get_or tags p 0) y k₀ r) where
     hopped : (d k : ℕ) → k₀ ≤ k → r ≡ k + d → Sieving words tags went at end stacks e₁ e k p y → Sieving words tags went at end stacks e₁ e r p y
     hopped zero k l q G = let z : r ≡ k = omega arith in rw z G
     hopped (suc d) k l q G =
         let h = H.high in
-        let g = skip k p y G (omega arith) (cell stacks 2 (e₁ + k)) (next_of (drop (k + 1) (seats_of stacks e₁ e)) e.exprtop) refl refl (λ c v. H.not k l (omega arith) c v) in
+        let g = skip G (omega arith) {a = cell stacks 2 (e₁ + k)} {b = next_of (drop (k + 1) (seats_of stacks e₁ e)) e.exprtop} refl refl (λ c v. H.not k l (omega arith) c v) in
         hopped d (k + 1) (omega arith) (omega arith) g
 
     pub sieve_hop : Sieving words tags went at end stacks e₁ e k₀ p y → Sieving words tags went at end stacks e₁ e r p y

@@ -33,14 +33,14 @@ made_of stacks e₁ e = cut (seats_of stacks e₁ e) e.exprtop (row stacks 1) (r
 unfoldable pub making_of : List ℕ → ℕ → List ℕ → List ℕ → List (List ℕ) → List (List ℕ) → List ℕ → Sizes → List ℕ → List (List ℕ) → ℕ → Builder
 making_of words k log logtags starts maps special e exprmap stacks e₁ = record { out = st_of words log logtags starts maps special e; memo = take k exprmap; made = made_of stacks e₁ e }
 
--- lengths of the stacks, and their tops
+-- lengths of the stacks, and their tops; a clause and no ghost field: of the rows, which C lends as one array, and of sizes, which are passed by value beside them
 pub record Stacks (stacks : List (List ℕ)) (e : Sizes) : Type 0 where
   pub four : length stacks ≡ 4
   pub rows : (t : ℕ) → t < 4 → length (row stacks t) ≡ 16384
   pub high : e.exprtop ≤ 16384
   pub high' : e.bodytop ≤ 16384
 
--- a function under construction
+-- a function under construction; a clause and no ghost field: its map, the stacks and the sizes are parameters of their own, for the reason beside `ShaderFunction`
 pub record Under (k : ℕ) (exprmap : List ℕ) (stacks : List (List ℕ)) (e₁ : ℕ) (e : Sizes) : Type 0 where
   pub few : k ≤ 1024
   pub em_long : length exprmap ≡ 1024

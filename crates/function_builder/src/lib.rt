@@ -3,10 +3,8 @@
 // function of the same name. An expression is appended, or, where it belongs to an initialiser, merged.
 #![tactic(auto)]
 
-ghost use Rattle.std.specs.Prelude.{MatchOption, ◌≡◌, true, false, List, [], ℕ, ◌+◌, ◌-◌, ◌≤◌, ◌<◌, length, drop};
-ghost use Rattle.std.proofs.Math.Seq.{slice};
-ghost use Rattle.std.proofs.lemmas.List.Edits.{sets};
-ghost use Rattle.model.specs.References.{target, ref_of, through, first_word, undefined_at, shift, alike_c, alike, index_of as seat_of};
+ghost use Rattle.std.specs.Prelude.{MatchOption, ◌≡◌, true, false, List, [], ℕ, ◌+◌, ◌-◌, ◌≤◌, ◌<◌, length, get_or, drop};
+ghost use Rattle.model.specs.References.{target, ref_of, through, first_word, undefined_at, shift, alike, index_of as seat_of};
 ghost use Rattle.model.specs.Between.{between};
 ghost use Rattle.model.specs.Bodies.{append_expr as pushE, intern_expr};
 ghost use Rattle.theory_records.specs.RecordLaws.{All};
@@ -15,8 +13,8 @@ ghost use Rattle.derive_state.specs.Refers.{target_of};
 ghost use Rattle.derive_state.specs.Source.{mod_of};
 ghost use Rattle.derive_state.specs.Held.{row, carried_by};
 ghost use Rattle.derive_lookup.specs.Bearing.{Bearing};
-ghost use Rattle.function_references.specs.Fits.{FitN, Ground, Legible};
-ghost use Rattle.function_references.specs.Cuts.{next_of, Rising, exprs_of, Expressions};
+ghost use Rattle.function_references.specs.Fits.{FitN, Ground};
+ghost use Rattle.function_references.specs.Cuts.{next_of, Rising, exprs_of, Expressions, Expressions-prop};
 ghost use Rattle.function_builder.specs.Stacks.{went_by, went_of, seats_of, made_of, Stacks, Under};
 ghost use Rattle.function_builder.specs.Makes.{Lays, Wrote, Hops, Pushed};
 ghost use Rattle.derive_state.specs.Sizes.{going, told};
@@ -27,6 +25,7 @@ use derive_state::{
     Derived, ExprMap, Full, Maps, Places, ShaderSource, Sizes, StackRows, Target, alike_cell,
     is_span, moved, number_of, target_of, undefined_at,
 };
+use function_references::Piece;
 
 // The rows of the stacks: words and classes of expressions, where each of them starts, and words of declarations, bodies and names. Numbers, since C lends the
 // stacks as one array of four rows; four borrows of it were tried: no pattern takes apart an array behind `&mut`, and `split_first_mut` gives an Option for each row.
@@ -48,6 +47,21 @@ pub struct ShaderFunction<'a, 'p> {
     pub places: &'p Places,
     pub count: usize,
     pub base: usize,
+    pub ghost expressions: { Expressions source.image.words.now source.image.tags.now places.now count } by { Expressions-prop source.image.words.now source.image.tags.now places.now count },
+}
+
+impl<'a> ShaderFunction<'a, '_> {
+    // Expression e.
+    pub fn expression(self, e: usize) -> Piece<'a>
+        requires { e < self.count }
+        ensures { (result.source ≡ self.entry.source) × (result.at ≡ get_or self.entry.places.now e 0) × (result.end ≡ get_or self.entry.places.now (e + 1) 0) }
+    {
+        Piece {
+            source: self.source,
+            at: self.places[e] as usize,
+            end: self.places[e + 1] as usize,
+        }
+    }
 }
 
 // A word carried through the maps, of a class that names no function.
@@ -77,43 +91,46 @@ pub fn carried(image: Image, derived: &Derived, exprmap: &ExprMap, s: u8, w: u32
     by_maps(derived.maps, exprmap, s, w)
 }
 
-// What word i of the source becomes; 0 at the end.
-fn carried_or_end(image: Image, derived: &Derived, exprmap: &ExprMap, i: usize, end: usize) -> u32
-    requires ground { Ground image.words.now image.tags.now image.n }
+// What word i of a piece becomes.
+fn carried_at(piece: &Piece, derived: &Derived, exprmap: &ExprMap, i: usize) -> u32
+    requires ground { Ground piece.now.source.image.words.now piece.now.source.image.tags.now piece.now.source.image.n }
     requires bearing { Bearing derived.now.log.now derived.now.logtags.now derived.now.starts.now (going derived.now.sizes) }
-    requires legible { Legible image.words.now image.tags.now 1024 i end }
-    ensures { result ≡ first_word (carried_by (went_of image.entry.words.now image.entry.n derived.now.log.now derived.now.logtags.now derived.now.starts.now derived.now.maps.now (going derived.now.sizes) exprmap.now) image.entry.tags.now image.entry.words.now i end) }
+    requires i_bound { (piece.now.at ≤ i) × (i < piece.now.end) }
+    ensures { result ≡ through (went_of piece.now.source.image.words.now piece.now.source.image.n derived.now.log.now derived.now.logtags.now derived.now.starts.now derived.now.maps.now (going derived.now.sizes) exprmap.now) (get_or piece.now.source.image.tags.now i 0) (get_or piece.now.source.image.words.now i 0) }
 {
-    if i < end {
-        carried(image, derived, exprmap, image.tags[i], image.words[i])
+    let image = piece.source.image;
+    carried(image, derived, exprmap, image.tags[i], image.words[i])
+}
+
+// The same, and 0 at the end.
+fn carried_or_end(piece: &Piece, derived: &Derived, exprmap: &ExprMap, i: usize) -> u32
+    requires ground { Ground piece.now.source.image.words.now piece.now.source.image.tags.now piece.now.source.image.n }
+    requires bearing { Bearing derived.now.log.now derived.now.logtags.now derived.now.starts.now (going derived.now.sizes) }
+    requires i_bound { piece.now.at ≤ i }
+    ensures { result ≡ first_word (carried_by (went_of piece.now.source.image.words.now piece.now.source.image.n derived.now.log.now derived.now.logtags.now derived.now.starts.now derived.now.maps.now (going derived.now.sizes) exprmap.now) piece.now.source.image.tags.now piece.now.source.image.words.now i piece.now.end) }
+{
+    if i < piece.end {
+        carried_at(piece, derived, exprmap, i)
     } else {
         0
     }
 }
 
-// Writes what the source's words from `at` to `end` become on the top of the stack of expressions.
-pub fn write(
-    source: ShaderSource,
-    derived: &Derived,
-    exprmap: &ExprMap,
-    stacks: &mut StackRows,
-    at: usize,
-    end: usize,
-)
-    requires ground { Ground source.image.words.now source.image.tags.now source.image.n }
+// Writes what the words of a piece become on the top of the stack of expressions.
+pub fn write(piece: Piece, derived: &Derived, exprmap: &ExprMap, stacks: &mut StackRows)
+    requires ground { Ground piece.source.image.words.now piece.source.image.tags.now piece.source.image.n }
     requires bearing { Bearing derived.now.log.now derived.now.logtags.now derived.now.starts.now (going derived.now.sizes) }
-    requires legible { Legible source.image.words.now source.image.tags.now 1024 at end }
-    requires stacks { (Stacks stacks.old (going derived.now.sizes)) × (derived.now.sizes.exprtop + (end - at) ≤ 16384) }
-    ensures { Wrote (shift (carried_by (went_of source.entry.image.words.now source.entry.image.n derived.now.log.now derived.now.logtags.now derived.now.starts.now derived.now.maps.now (going derived.now.sizes) exprmap.now) source.entry.image.tags.now source.entry.image.words.now at end) source.entry.offset false) derived.now.sizes.exprtop stacks.old stacks.new }
+    requires stacks { (Stacks stacks.old (going derived.now.sizes)) × (derived.now.sizes.exprtop + (piece.end - piece.at) ≤ 16384) }
+    ensures { Wrote (shift (carried_by (went_of piece.entry.source.image.words.now piece.entry.source.image.n derived.now.log.now derived.now.logtags.now derived.now.starts.now derived.now.maps.now (going derived.now.sizes) exprmap.now) piece.entry.source.image.tags.now piece.entry.source.image.words.now piece.entry.at piece.entry.end) piece.entry.source.offset false) derived.now.sizes.exprtop stacks.old stacks.new }
 {
     let mut u = false;
-    let mut w = carried_or_end(source.image, derived, exprmap, at, end);
-    for j in at..end {
-        let q = derived.sizes.exprtop as usize + (j - at);
-        let s = source.image.tags[j];
-        let next = carried_or_end(source.image, derived, exprmap, j + 1, end);
+    let mut w = carried_or_end(&piece, derived, exprmap, piece.at);
+    for j in piece.at..piece.end {
+        let q = derived.sizes.exprtop as usize + (j - piece.at);
+        let s = piece.source.image.tags[j];
+        let next = carried_or_end(&piece, derived, exprmap, j + 1);
         u = undefined_at(s, w, next, u);
-        stacks[WORDS][q] = moved(s, w, source.offset, u);
+        stacks[WORDS][q] = moved(s, w, piece.source.offset, u);
         stacks[CLASSES][q] = s as u32;
         w = next;
     }
@@ -129,51 +146,49 @@ pub fn append(
 ) -> Result<Sizes, Full>
     requires ground { Ground function.source.image.words.now function.source.image.tags.now function.source.image.n }
     requires bearing { Bearing derived.now.log.now derived.now.logtags.now derived.now.starts.now (going derived.now.sizes) }
-    requires expressions { Expressions function.source.image.words.now function.source.image.tags.now function.places.now function.count }
     requires e_lt_k { e < function.count }
     requires under { Under function.count exprmap.old stacks.old function.base (going derived.now.sizes) }
     ensures { Lays function.entry.source.image.words.now function.entry.count (pushE function.entry.source.offset (mod_of function.entry.source.image.words.now function.entry.source.image.n) still (exprs_of function.entry.source.image.words.now function.entry.source.image.tags.now function.entry.places.now function.entry.count) e) derived.now.log.now derived.now.logtags.now derived.now.starts.now derived.now.maps.now exprmap.old stacks.old function.entry.base (going derived.now.sizes) (told result) exprmap.new stacks.new }
 {
-    let at = function.places[e] as usize;
-    let end = function.places[e + 1] as usize;
+    let piece = function.expression(e);
+    let words = piece.end - piece.at;
     let exprtop = derived.sizes.exprtop as usize;
     let made = derived.sizes.made as usize;
-    if 16384 - exprtop < end - at {
+    if 16384 - exprtop < words {
         return Err(Full);
     }
-    write(function.source, derived, exprmap, stacks, at, end);
+    write(piece, derived, exprmap, stacks);
     stacks[SEATS][function.base + made] = exprtop as u32;
     exprmap[e] = (made + 1) as u16;
     Ok(Sizes {
-        exprtop: (exprtop + (end - at)) as u16,
+        exprtop: (exprtop + words) as u16,
         made: (made + 1) as u16,
         ..derived.sizes
     })
 }
 
-// The first of the source's words, from `at` on, that does not become, ignoring spans, the word in its place of the expression on the stack from a to b, which
-// is as long.
+// The first word of a piece that does not become, ignoring spans, the word in its place of the expression on the stack that starts at a and is as long.
 fn first_difference(
-    image: Image,
+    piece: &Piece,
     derived: &Derived,
     exprmap: &ExprMap,
     stacks: &StackRows,
-    at: usize,
-    end: usize,
     a: usize,
-    b: usize,
 ) -> Option<usize>
-    requires ground { Ground image.words.now image.tags.now image.n }
+    requires ground { Ground piece.now.source.image.words.now piece.now.source.image.tags.now piece.now.source.image.n }
     requires bearing { Bearing derived.now.log.now derived.now.logtags.now derived.now.starts.now (going derived.now.sizes) }
-    requires legible { Legible image.words.now image.tags.now 1024 at end }
-    requires stacks { (Stacks stacks.now (going derived.now.sizes)) × (a ≤ b) × (b ≤ 16384) × (b - a ≡ end - at) }
-    ensures { MatchOption result (true ≡ alike (between (row stacks.now 1) (row stacks.now 0) a b) (carried_by (went_of image.entry.words.now image.entry.n derived.now.log.now derived.now.logtags.now derived.now.starts.now derived.now.maps.now (going derived.now.sizes) exprmap.now) image.entry.tags.now image.entry.words.now at end)) (λ p. (at ≤ p) × (p < end) × (false ≡ alike (between (row stacks.now 1) (row stacks.now 0) a b) (carried_by (went_of image.entry.words.now image.entry.n derived.now.log.now derived.now.logtags.now derived.now.starts.now derived.now.maps.now (going derived.now.sizes) exprmap.now) image.entry.tags.now image.entry.words.now at end))) }
+    requires stacks { (Stacks stacks.now (going derived.now.sizes)) × (a + (piece.now.end - piece.now.at) ≤ 16384) }
+    ensures { MatchOption result (true ≡ alike (between (row stacks.now 1) (row stacks.now 0) a (a + (piece.now.end - piece.now.at))) (carried_by (went_of piece.now.source.image.words.now piece.now.source.image.n derived.now.log.now derived.now.logtags.now derived.now.starts.now derived.now.maps.now (going derived.now.sizes) exprmap.now) piece.now.source.image.tags.now piece.now.source.image.words.now piece.now.at piece.now.end)) (λ p. (piece.now.at ≤ p) × (p < piece.now.end) × (false ≡ alike (between (row stacks.now 1) (row stacks.now 0) a (a + (piece.now.end - piece.now.at))) (carried_by (went_of piece.now.source.image.words.now piece.now.source.image.n derived.now.log.now derived.now.logtags.now derived.now.starts.now derived.now.maps.now (going derived.now.sizes) exprmap.now) piece.now.source.image.tags.now piece.now.source.image.words.now piece.now.at piece.now.end))) }
 {
-    (at..end).find(|j| {
-        let q = a + (*j - at);
-        let s = image.tags[*j];
-        let y = carried(image, derived, exprmap, s, image.words[*j]);
-        !alike_cell(stacks[CLASSES][q], stacks[WORDS][q], s, y)
+    (piece.at..piece.end).find(|j| {
+        let q = a + (*j - piece.at);
+        let y = carried_at(piece, derived, exprmap, *j);
+        !alike_cell(
+            stacks[CLASSES][q],
+            stacks[WORDS][q],
+            piece.source.image.tags[*j],
+            y,
+        )
     })
 }
 
@@ -213,36 +228,35 @@ fn next_candidate(
 // The first expression that equals, ignoring spans, what the source's words become. Most of the others differ in one word: the last, or the one in which another
 // expression differed.
 fn find_equal(
-    image: Image,
+    piece: &Piece,
     derived: &Derived,
     exprmap: &ExprMap,
     stacks: &StackRows,
     e1: usize,
-    at: usize,
-    end: usize,
 ) -> Option<usize>
-    requires ground { Ground image.words.now image.tags.now image.n }
+    requires ground { Ground piece.now.source.image.words.now piece.now.source.image.tags.now piece.now.source.image.n }
     requires bearing { Bearing derived.now.log.now derived.now.logtags.now derived.now.starts.now (going derived.now.sizes) }
-    requires legible { Legible image.words.now image.tags.now 1024 at end }
-    requires stacks { (Stacks stacks.now (going derived.now.sizes)) × (Rising (seats_of stacks.now e1 (going derived.now.sizes)) e1 derived.now.sizes.exprtop) × (length (seats_of stacks.now e1 (going derived.now.sizes)) ≡ derived.now.sizes.made) × (at < end) }
-    ensures { MatchOption result (derived.now.sizes.made ≡ seat_of (made_of stacks.now e1 (going derived.now.sizes)) (carried_by (went_of image.entry.words.now image.entry.n derived.now.log.now derived.now.logtags.now derived.now.starts.now derived.now.maps.now (going derived.now.sizes) exprmap.now) image.entry.tags.now image.entry.words.now at end)) (λ j. (j < derived.now.sizes.made) × (j ≡ seat_of (made_of stacks.now e1 (going derived.now.sizes)) (carried_by (went_of image.entry.words.now image.entry.n derived.now.log.now derived.now.logtags.now derived.now.starts.now derived.now.maps.now (going derived.now.sizes) exprmap.now) image.entry.tags.now image.entry.words.now at end))) }
+    requires stacks { (Stacks stacks.now (going derived.now.sizes)) × (Rising (seats_of stacks.now e1 (going derived.now.sizes)) e1 derived.now.sizes.exprtop) × (length (seats_of stacks.now e1 (going derived.now.sizes)) ≡ derived.now.sizes.made) }
+    requires some { piece.now.at < piece.now.end }
+    ensures { MatchOption result (derived.now.sizes.made ≡ seat_of (made_of stacks.now e1 (going derived.now.sizes)) (carried_by (went_of piece.now.source.image.words.now piece.now.source.image.n derived.now.log.now derived.now.logtags.now derived.now.starts.now derived.now.maps.now (going derived.now.sizes) exprmap.now) piece.now.source.image.tags.now piece.now.source.image.words.now piece.now.at piece.now.end)) (λ j. (j < derived.now.sizes.made) × (j ≡ seat_of (made_of stacks.now e1 (going derived.now.sizes)) (carried_by (went_of piece.now.source.image.words.now piece.now.source.image.n derived.now.log.now derived.now.logtags.now derived.now.starts.now derived.now.maps.now (going derived.now.sizes) exprmap.now) piece.now.source.image.tags.now piece.now.source.image.words.now piece.now.at piece.now.end))) }
 {
     let made = derived.sizes.made as usize;
-    let mut p = end - 1;
-    let mut y = carried(image, derived, exprmap, image.tags[p], image.words[p]);
+    let mut p = piece.end - 1;
+    let mut y = carried_at(piece, derived, exprmap, p);
     let mut k = 0;
     // No `for`: each turn goes on after the next candidate, which depends on what the last one differed in.
     while k < made {
-        let j = next_candidate(stacks, e1, made, p - at, image.tags[p], y, k)?;
+        let s = piece.source.image.tags[p];
+        let j = next_candidate(stacks, e1, made, p - piece.at, s, y, k)?;
         k = j + 1;
         let a = stacks[SEATS][e1 + j] as usize;
         let b = expr_end(stacks, derived.sizes, e1, j);
-        if b - a == end - at {
-            let Some(d) = first_difference(image, derived, exprmap, stacks, at, end, a, b) else {
+        if b - a == piece.end - piece.at {
+            let Some(d) = first_difference(piece, derived, exprmap, stacks, a) else {
                 return Some(j);
             };
             p = d;
-            y = carried(image, derived, exprmap, image.tags[p], image.words[p]);
+            y = carried_at(piece, derived, exprmap, p);
         }
     }
     None
@@ -258,21 +272,16 @@ pub fn merge(
 ) -> Result<Sizes, Full>
     requires ground { Ground function.source.image.words.now function.source.image.tags.now function.source.image.n }
     requires bearing { Bearing derived.now.log.now derived.now.logtags.now derived.now.starts.now (going derived.now.sizes) }
-    requires expressions { Expressions function.source.image.words.now function.source.image.tags.now function.places.now function.count }
     requires e_lt_k { e < function.count }
     requires under { Under function.count exprmap.old stacks.old function.base (going derived.now.sizes) }
     ensures { Lays function.entry.source.image.words.now function.entry.count (intern_expr function.entry.source.offset (mod_of function.entry.source.image.words.now function.entry.source.image.n) still (exprs_of function.entry.source.image.words.now function.entry.source.image.tags.now function.entry.places.now function.entry.count) e) derived.now.log.now derived.now.logtags.now derived.now.starts.now derived.now.maps.now exprmap.old stacks.old function.entry.base (going derived.now.sizes) (told result) exprmap.new stacks.new }
 {
-    let at = function.places[e] as usize;
-    let end = function.places[e + 1] as usize;
     if let Some(j) = find_equal(
-        function.source.image,
+        &function.expression(e),
         derived,
         exprmap,
         stacks,
         function.base,
-        at,
-        end,
     ) {
         exprmap[e] = (j + 1) as u16;
         return Ok(derived.sizes);

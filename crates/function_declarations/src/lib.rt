@@ -13,7 +13,7 @@ ghost use Rattle.theory_passes.specs.Light.{still};
 ghost use Rattle.derive_state.specs.Source.{mod_of};
 ghost use Rattle.derive_state.specs.Held.{Valid};
 ghost use Rattle.function_references.specs.Fits.{FitN, Ground};
-ghost use Rattle.function_references.specs.Cuts.{Expressions, exprs_of};
+ghost use Rattle.function_references.specs.Cuts.{exprs_of};
 ghost use Rattle.function_builder.specs.Stacks.{Under};
 ghost use Rattle.function_builder.specs.Makes.{Builds};
 ghost use Rattle.function_words.specs.Runs.{unites, Declares, Passes};
@@ -35,7 +35,6 @@ fn import_initialiser(
     e: usize,
 ) -> Result<Sizes, Full>
     requires ground { Ground function.source.image.words.now function.source.image.tags.now function.source.image.n }
-    requires expressions { Expressions function.source.image.words.now function.source.image.tags.now function.places.now function.count }
     requires e_lt_k { e < function.count }
     requires valid_arrays { Valid derived.old ends }
     requires under { Under function.count exprmap.old stacks.old function.base (going ends) }
@@ -44,10 +43,9 @@ fn import_initialiser(
     if exprmap[e] != 0 {
         return Ok(ends);
     }
-    let end = function.places[e + 1] as usize;
+    let piece = function.expression(e);
     let mut got = ends;
-    let at = function.places[e] as usize;
-    for j in at..end {
+    for j in piece.at..piece.end {
         match referent_of(
             function.source.image.tags[j],
             function.source.image.words[j],
@@ -73,7 +71,6 @@ fn import_declaration_word(
     i: usize,
 ) -> Result<Sizes, Full>
     requires ground { Ground function.source.image.words.now function.source.image.tags.now function.source.image.n }
-    requires expressions { Expressions function.source.image.words.now function.source.image.tags.now function.places.now function.count }
     requires i_bound { (i < 16384) × (All (FitN function.source.image.words.now function.count) (ref_of (target (get_or function.source.image.tags.now i 0)) (get_or function.source.image.words.now i 0) [])) }
     requires valid_arrays { Valid derived.old ends }
     requires under { Under function.count exprmap.old stacks.old function.base (going ends) }
@@ -102,7 +99,6 @@ pub fn declare(
     end: usize,
 ) -> Result<Sizes, Full>
     requires ground { Ground function.source.image.words.now function.source.image.tags.now function.source.image.n }
-    requires expressions { Expressions function.source.image.words.now function.source.image.tags.now function.places.now function.count }
     requires declares { Declares function.source.image.words.now function.source.image.tags.now function.count at end }
     requires valid_arrays { Valid derived.old ends }
     requires under { Under function.count exprmap.old stacks.old function.base (going ends) }

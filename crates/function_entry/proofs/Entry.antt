@@ -86,15 +86,12 @@ module _ {words tags : List ℕ} {n : ℕ} (src : Source words tags n) (scopes :
   unfolding ReadyF
   entry-nested N = rw function_is (record { scopes = scopes; special = N.special; ready = N.made.ready.1 })
 
-  pub exprs_in : expressions_at s words < 16384
-  exprs_in = omega (arith, order piece (indexed words tags s end))
-
   pub entry-stands : Standing words tags s
   entry-stands = record { end = end; function = F; cells = flat_module M; small = omega (arith, taped_length src.taped, src.taped.small); own = piece.stands }
 
   -- its head
-  pub head_low : at ≤ s
-  head_low = omega arith
+  pub head_some : at < s
+  head_some = omega arith
 
   head_words : E.head ≡ between tags words at s
   head_words = rw (at-is, s-is) (head_is src j E (entry_there src j there))

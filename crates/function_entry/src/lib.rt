@@ -15,12 +15,13 @@ ghost use Rattle.derive_session.specs.Valid.{ValidSession};
 ghost use Rattle.function_entry.specs.Entered.{NestedE, EntersAll, Enters};
 ghost use Rattle.derive_state.specs.Sizes.{going, told};
 
-use base_views::{ENTRIES, FUNCTIONS, MOST_ENTRIES, count, expressions_at};
+use base_views::{ENTRIES, FUNCTIONS, MOST_ENTRIES, count};
 use derive_state::{DerivedMut, Full, ShaderSource, Sizes, Special, StackRows};
 use function_builder::write;
 use function_localize::localize;
 use function_outside::import_outside;
 use function_record::{FunctionPlace, append_record};
+use function_references::Piece;
 
 // Imports entry point j, with room for `room` functions in progress.
 pub fn enter(
@@ -42,19 +43,15 @@ pub fn enter(
     let s = source.image.entry_function(j);
     let mut places = [0u16; 1025];
     let got = localize(source, derived, stacks, &mut places, ends, s, end, room)?;
-    let led = import_outside(source, derived, got, at, s)?;
+    let head = Piece { source, at, end: s };
+    let led = import_outside(head, derived, got)?;
     let exprtop = led.exprtop as usize;
     if 16384 - exprtop < s - at {
         return Err(Full);
     }
     let exprmap = [0u16; 1024];
-    write(source, &derived.view(led), &exprmap, stacks, at, s);
-    let place = FunctionPlace {
-        start: s,
-        exprs: expressions_at(source.image.words, s),
-        body: source.image.body_at(s),
-        end,
-    };
+    write(head, &derived.view(led), &exprmap, stacks);
+    let place = FunctionPlace::of(source.image, s, end);
     append_record(
         source.image.tags,
         derived.log,

@@ -9,7 +9,7 @@ ghost use Rattle.theory_passes.specs.Light.{still};
 ghost use Rattle.derive_state.specs.Source.{mod_of};
 ghost use Rattle.derive_state.specs.Held.{Valid};
 ghost use Rattle.function_references.specs.Fits.{Ground};
-ghost use Rattle.function_references.specs.Cuts.{exprs_of, Expressions};
+ghost use Rattle.function_references.specs.Cuts.{exprs_of};
 ghost use Rattle.function_builder.specs.Stacks.{Under};
 ghost use Rattle.function_builder.specs.Makes.{Builds};
 ghost use Rattle.derive_state.specs.Sizes.{going};
@@ -30,7 +30,6 @@ pub fn import_operand(
     e: usize,
 ) -> Result<Sizes, Full>
     requires ground { Ground function.source.image.words.now function.source.image.tags.now function.source.image.n }
-    requires expressions { Expressions function.source.image.words.now function.source.image.tags.now function.places.now function.count }
     requires e_lt_k { e < function.count }
     requires valid_arrays { Valid derived.old ends }
     requires under { Under function.count exprmap.old stacks.old function.base (going ends) }
@@ -39,9 +38,7 @@ pub fn import_operand(
     if exprmap[e] != 0 {
         return Ok(ends);
     }
-    let at = function.places[e] as usize;
-    let end = function.places[e + 1] as usize;
-    let got = import_outside(function.source, derived, ends, at, end)?;
+    let got = import_outside(function.expression(e), derived, ends)?;
     append(function, &derived.view(got), exprmap, stacks, e)
 }
 
@@ -64,7 +61,6 @@ pub fn import_standing(
     e: usize,
 ) -> Result<Sizes, Full>
     requires ground { Ground function.source.image.words.now function.source.image.tags.now function.source.image.n }
-    requires expressions { Expressions function.source.image.words.now function.source.image.tags.now function.places.now function.count }
     requires e_lt_k { e < function.count }
     requires valid_arrays { Valid derived.old ends }
     requires under { Under function.count exprmap.old stacks.old function.base (going ends) }
@@ -73,10 +69,9 @@ pub fn import_standing(
     if exprmap[e] != 0 {
         return Ok(ends);
     }
-    let end = function.places[e + 1] as usize;
+    let piece = function.expression(e);
     let mut got = ends;
-    let at = function.places[e] as usize;
-    for j in at..end {
+    for j in piece.at..piece.end {
         match referent_of(
             function.source.image.tags[j],
             function.source.image.words[j],

@@ -1,11 +1,13 @@
 -- `localize` at its places: what the calls require, what each turn of the loop does, and the sizes.
 use mathlib.Core.Path.{◌≡◌, refl, ap}
+use mathlib.Core.Logic.{⊎_elim}
 use mathlib.Core.Bool.{Bool, true, false}
 use mathlib.Core.List.{List, [], ◌∷◌, map}
 use Prim.Native.Nat.{ℕ, suc, ◌+◌, ◌*◌, ◌≤◌, ◌<◌}
 use native.Mathlib.Omega.{arith}
-use lib.ListN.{length, get_or, take, replicate}
-use lib.Seq.{slice, sets}
+use lib.ListN.{length, get_or, take, replicate, get_or-eq_default}
+use lib.Seq.{slice, sets, get_or-take, length-take-le}
+use Rattle.std.proofs.lemmas.Bool.{cases_lt}
 use Rattle.model.specs.Outcome.{word}
 use Rattle.model.specs.Table.{CALLEE}
 use Rattle.model.specs.Tree.{Function}
@@ -205,11 +207,12 @@ module _ {words tags : List ℕ} {n s end : ℕ} (p : Part words tags n s end (f
       pub keep_long : (k ≤ 1024) × (length exprmap ≡ 1024) × (e.full ≡ false)
       keep_long = (k_few p x, T.way.under.em_long, T.way.going)
 
-      pub keep_exprs : (j : ℕ) → j < get_or words named 0 → get_or words (named + 1 + 2 * j) 0 < k
-      keep_exprs = named_exprs p x
+      -- of the map, what the function's expressions have
+      pub keep_exprs : (j : ℕ) → j < get_or words named 0 → get_or words (named + 1 + 2 * j) 0 < length (take k exprmap)
+      keep_exprs j h = let z = keep_long in rw (length-take-le k exprmap (omega arith)) (named_exprs p x j h)
 
-      pub keep_low : (y : ℕ) → get_or exprmap y 0 ≤ 1024
-      keep_low y = let a = T.way.under.within y in let b = made_low in omega arith
+      pub keep_low : (y : ℕ) → get_or (take k exprmap) y 0 ≤ 1024
+      keep_low y = let z = keep_long in ⊎_elim (λ (h : y < k). rw (get_or-take k exprmap y 0 h) (let a = T.way.under.within y in let b = made_low in omega arith)) (λ (h : k ≤ y). rw (get_or-eq_default (take k exprmap) 0 {n = y} (rw (length-take-le k exprmap (omega arith)) h)) (omega arith)) (cases_lt y k)
 
       module _ {r₁ : Sizes} {stacks₁ : List (List ℕ)} (W : KeepNamesEnsures (keep_names (named_records words (named + 1) (get_or words named 0)) (take k exprmap) []) stacks e r₁ stacks₁) where
         pub names_full : r₁.full ≡ true → LocalizeEnsures words n o (Ready o (mod_of words n) room) (follow_s o (mod_of words n) room) (function_of (between tags words s end)) log₀ logtags₀ starts₀ maps₀ buckets₀ stacks₀ e₀ r₁ log logtags starts maps buckets stacks₁

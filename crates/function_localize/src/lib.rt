@@ -160,7 +160,7 @@ pub fn localize(
     }
     let e = r.sizes;
     let b = e.bodytop as usize;
-    let kept = keep_names(source.image.words, &exprmap, places, stacks, e, k, named)?;
+    let kept = keep_names(source.image.words, &exprmap[..k], places, stacks, e, named)?;
     import_names(source, derived, stacks, kept, b)
 }
 
@@ -184,12 +184,7 @@ pub fn append(
 {
     let (s, end) = source.image.record(FUNCTIONS, f);
     let got = localize(source, derived, stacks, places, ends, s, end, room)?;
-    let place = FunctionPlace {
-        start: s,
-        exprs: expressions_at(source.image.words, s),
-        body: source.image.body_at(s),
-        end,
-    };
+    let place = FunctionPlace::of(source.image, s, end);
     append_record(
         source.image.tags,
         derived.log,

@@ -9,7 +9,7 @@ use native.Mathlib.Numerals.{add-one}
 use native.Mathlib.Omega.{arith}
 use lib.Dec.{eqb}
 use lib.ListN.{length, get_or, set, take, drop, replicate, length-set, length-append, length-replicate}
-use lib.Seq.{slice, take-suc-set, take-set-le, take-set-lt, drop-set-add, drop-append-le, length-take-le, get_or-set_same, get_or-set_other, get_or-take}
+use lib.Seq.{slice, take-suc-set, take-set-le, take-set-lt, drop-set-add, drop-append-le, length-take-le, get_or-set_same, get_or-set_other}
 use borrow.Author.Tests.{eq-eqb, ne_eqb, eqb-true}
 use Rattle.theory_lists.specs.Lists.{zeros}
 use Rattle.model.specs.Outcome.{Cells}
@@ -155,7 +155,7 @@ module _ {w : ℕ} {stacks : List (List ℕ)} {e r : Sizes} {stacks' : List (Lis
       }
 
 -- ---- the loop
-pub record Keeping (words exprmap : List ℕ) (k at : ℕ) (stacks₀ : List (List ℕ)) (e₀ : Sizes) (stacks : List (List ℕ)) (seats : List ℕ) (e : Sizes) (i : ℕ) : Type 0 where
+pub record Keeping (words exprmap : List ℕ) (at : ℕ) (stacks₀ : List (List ℕ)) (e₀ : Sizes) (stacks : List (List ℕ)) (seats : List ℕ) (e : Sizes) (i : ℕ) : Type 0 where
   pub ps : List (ℕ × ℕ)
   pub within : i ≤ get_or words at 0
   pub ends : e ≡ atop e₀ (e₀.bodytop + 2 * length ps)
@@ -165,13 +165,13 @@ pub record Keeping (words exprmap : List ℕ) (k at : ℕ) (stacks₀ : List (Li
   pub expressions : (t : ℕ) → t < 3 → row stacks t ≡ row stacks₀ t
   pub seats_long : length seats ≡ 1025
   pub agree : (x : ℕ) → x < 1024 → get_or seats x 0 ≡ seat_of ps x
-  pub same : keep_names (named_records words (at + 1 + 2 * i) (get_or words at 0 - i)) (take k exprmap) ps ≡ keep_names (named_records words (at + 1) (get_or words at 0)) (take k exprmap) []
+  pub same : keep_names (named_records words (at + 1 + 2 * i) (get_or words at 0 - i)) exprmap ps ≡ keep_names (named_records words (at + 1) (get_or words at 0)) exprmap []
 
-module _ (words exprmap : List ℕ) (k at : ℕ) (stacks₀ : List (List ℕ)) (e₀ : Sizes) where
+module _ (words exprmap : List ℕ) (at : ℕ) (stacks₀ : List (List ℕ)) (e₀ : Sizes) where
   abbrev whole : List (ℕ × ℕ)
-  whole = keep_names (named_records words (at + 1) (get_or words at 0)) (take k exprmap) []
+  whole = keep_names (named_records words (at + 1) (get_or words at 0)) exprmap []
 
-  pub keep-first : e₀.full ≡ false → Stacks stacks₀ e₀ → Keeping words exprmap k at stacks₀ e₀ stacks₀ (replicate 1025 0) e₀ 0
+  pub keep-first : e₀.full ≡ false → Stacks stacks₀ e₀ → Keeping words exprmap at stacks₀ e₀ stacks₀ (replicate 1025 0) e₀ 0
   unfolding pair_words seat_of
   keep-first nf S = record {
     ps = [];
@@ -186,7 +186,7 @@ module _ (words exprmap : List ℕ) (k at : ℕ) (stacks₀ : List (List ℕ)) (
     same = let z : at + 1 + 2 * 0 ≡ at + 1 = omega arith in let y : get_or words at 0 - 0 ≡ get_or words at 0 = omega arith in rw (z, y);
   }
 
-  module _ (stacks : List (List ℕ)) (seats : List ℕ) (e : Sizes) (i : ℕ) (inv : Keeping words exprmap k at stacks₀ e₀ stacks seats e i) where
+  module _ (stacks : List (List ℕ)) (seats : List ℕ) (e : Sizes) (i : ℕ) (inv : Keeping words exprmap at stacks₀ e₀ stacks seats e i) where
     abbrev R : List ℕ
     R = row stacks 3
 
@@ -206,18 +206,18 @@ module _ (words exprmap : List ℕ) (k at : ℕ) (stacks₀ : List (List ℕ)) (
     long = inv.stacks_are.rows 3 (omega arith)
 
     -- one record: its expression y is mapped to v, or not mapped; w is its name's word
-    module _ (less : i < get_or words at 0) (y v w : ℕ) (hy : y ≡ get_or words (at + 1 + 2 * i) 0) (low : y < k) (hv : v ≡ get_or exprmap y 0) (hw : w ≡ get_or words (at + 1 + 2 * i + 1) 0) where
-      cut : (ps : List (ℕ × ℕ)) → ps ≡ name_if v w inv.ps → keep_names (named_records words (at + 1 + 2 * (i + 1)) (get_or words at 0 - (i + 1))) (take k exprmap) ps ≡ whole
+    module _ (less : i < get_or words at 0) (y v w : ℕ) (hy : y ≡ get_or words (at + 1 + 2 * i) 0) (hv : v ≡ get_or exprmap y 0) (hw : w ≡ get_or words (at + 1 + 2 * i + 1) 0) where
+      cut : (ps : List (ℕ × ℕ)) → ps ≡ name_if v w inv.ps → keep_names (named_records words (at + 1 + 2 * (i + 1)) (get_or words at 0 - (i + 1))) exprmap ps ≡ whole
       unfolding named_records keep_names field
       cut ps hps =
           let a : at + 1 + 2 * (i + 1) ≡ suc (suc (at + 1 + 2 * i)) = omega arith in
           let b : get_or words at 0 - i ≡ suc (get_or words at 0 - (i + 1)) = omega arith in
-          let m : get_or (take k exprmap) (get_or words (at + 1 + 2 * i) 0) 0 ≡ v = rw (← hy) (get_or-take k exprmap y 0 low ∙ sym hv) in
+          let m : get_or exprmap (get_or words (at + 1 + 2 * i) 0) 0 ≡ v = rw (← hy) (sym hv) in
           let n : get_or words (suc (at + 1 + 2 * i)) 0 ≡ w = sym (rw (add-one (at + 1 + 2 * i)) at hw) in
           rw (a, hps, ← m, ← n) (rw b at inv.same)
 
       -- it is not mapped
-      pub keep_skip : v ≡ 0 → Keeping words exprmap k at stacks₀ e₀ stacks seats e (i + 1)
+      pub keep_skip : v ≡ 0 → Keeping words exprmap at stacks₀ e₀ stacks seats e (i + 1)
       unfolding name_if
       keep_skip z = record {
         ps = inv.ps;
@@ -233,7 +233,7 @@ module _ (words exprmap : List ℕ) (k at : ℕ) (stacks₀ : List (List ℕ)) (
       }
 
       module _ (some : v ≡ 0 → ⊥) (small : v ≤ 1024) (j : ℕ) (hj : j ≡ get_or seats (v - 1) 0) where
-        named : (ps : List (ℕ × ℕ)) → ps ≡ put_name inv.ps (v - 1) w → keep_names (named_records words (at + 1 + 2 * (i + 1)) (get_or words at 0 - (i + 1))) (take k exprmap) ps ≡ whole
+        named : (ps : List (ℕ × ℕ)) → ps ≡ put_name inv.ps (v - 1) w → keep_names (named_records words (at + 1 + 2 * (i + 1)) (get_or words at 0 - (i + 1))) exprmap ps ≡ whole
         unfolding name_if
         named ps h = let z : v ≡ suc (v - 1) = omega arith in cut ps (h ∙ ap (λ (x : ℕ). name_if x w inv.ps) (sym z))
 
@@ -248,7 +248,7 @@ module _ (words exprmap : List ℕ) (k at : ℕ) (stacks₀ : List (List ℕ)) (
           pub keep-under : e₀.bodytop + 2 * j - 1 < e.bodytop
           keep-under = let s = seat_in inv.ps (v - 1) (j - 1) seat_is in let t = top in omega arith
 
-          pub keep_there : (stacks' : List (List ℕ)) → stacks' ≡ put stacks 3 (e₀.bodytop + 2 * j - 1) w → Keeping words exprmap k at stacks₀ e₀ stacks' seats e (i + 1)
+          pub keep_there : (stacks' : List (List ℕ)) → stacks' ≡ put stacks 3 (e₀.bodytop + 2 * j - 1) w → Keeping words exprmap at stacks₀ e₀ stacks' seats e (i + 1)
           keep_there stacks' put_is = record {
             ps = put_name inv.ps (v - 1) w;
             within = omega arith;
@@ -277,7 +277,7 @@ module _ (words exprmap : List ℕ) (k at : ℕ) (stacks₀ : List (List ℕ)) (
 
           pub keep_full : 16382 < e.bodytop → (r : Sizes) → r.full ≡ true → KeepNamesEnsures whole stacks₀ e₀ r stacks
           keep_full over r q = record {
-            over = λ z. let t = top in let a = keep-more (named_records words (at + 1 + 2 * (i + 1)) (get_or words at 0 - (i + 1))) (take k exprmap) (inv.ps ++ ((v - 1, w) ∷ [])) in let b = length-append inv.ps ((v - 1, w) ∷ []) in let d = rw (named (inv.ps ++ ((v - 1, w) ∷ [])) (sym (put-new inv.ps (v - 1) w seat_none))) at a in omega arith;
+            over = λ z. let t = top in let a = keep-more (named_records words (at + 1 + 2 * (i + 1)) (get_or words at 0 - (i + 1))) exprmap (inv.ps ++ ((v - 1, w) ∷ [])) in let b = length-append inv.ps ((v - 1, w) ∷ []) in let d = rw (named (inv.ps ++ ((v - 1, w) ∷ [])) (sym (put-new inv.ps (v - 1) w seat_none))) at a in omega arith;
             is = λ z. absurd (false≢true (sym z ∙ q));
             ends = λ z. absurd (false≢true (sym z ∙ q));
             below = λ z. absurd (false≢true (sym z ∙ q));
@@ -318,7 +318,7 @@ module _ (words exprmap : List ℕ) (k at : ℕ) (stacks₀ : List (List ℕ)) (
               row₂ : row stacks₂ 3 ≡ set (set R e.bodytop (v - 1)) (suc e.bodytop) w
               row₂ = pushed_row keep_stacks P₂ less₂ ∙ rw (pushed_row inv.stacks_are P₁ less₁, top₁)
 
-              pub keep-new : (s : ℕ) → s ≡ (e.bodytop - e₀.bodytop) / 2 + 1 → Keeping words exprmap k at stacks₀ e₀ stacks₂ (set seats (v - 1) s) r₂ (i + 1)
+              pub keep-new : (s : ℕ) → s ≡ (e.bodytop - e₀.bodytop) / 2 + 1 → Keeping words exprmap at stacks₀ e₀ stacks₂ (set seats (v - 1) s) r₂ (i + 1)
               unfolding ps₂
               keep-new s hs = record {
                 ps = ps₂;

@@ -1,7 +1,7 @@
 // The named expressions of a function that is imported: those that stay, each with its last name, and their names imported.
 #![tactic(auto)]
 
-ghost use Rattle.std.specs.Prelude.{◌≡◌, [], ℕ, suc, ◌+◌, ◌-◌, ◌*◌, ◌≤◌, ◌<◌, length, get_or, take};
+ghost use Rattle.std.specs.Prelude.{◌≡◌, [], ℕ, suc, ◌+◌, ◌-◌, ◌*◌, ◌≤◌, ◌<◌, length, get_or};
 ghost use Rattle.model.specs.Module.{count_at};
 ghost use Rattle.model.specs.Bodies.{keep_names};
 ghost use Rattle.derive_state.specs.Held.{row, Valid};
@@ -12,28 +12,27 @@ ghost use Rattle.derive_state.specs.Sizes.{going, told};
 
 use base_views::NAMES;
 use base_words::Words;
-use derive_imports::import;
-use derive_state::{DerivedMut, ExprMap, Full, ShaderSource, Sizes, StackRows};
+use derive_imports::{Reference, import};
+use derive_state::{DerivedMut, Full, ShaderSource, Sizes, StackRows};
 use function_builder::{BODY, push};
 
-// The named expressions that stay, of those whose count is word `at`, each with its name's word in the source: the last name counts, in the first's place.
+// The named expressions that stay, of those whose count is word `at`, each with its name's word in the source: the last name counts, in the first's place. `exprmap` has
+// the function's expressions and no more.
 // `seats` is scratch memory that the caller provides: nothing is required of it before or promised after. A seat is the number of a name that stays plus 1, and 0 for
 // none: the memory is that of the caller's places, which are numbers, and clearing makes them 0.
 pub fn keep_names(
     words: &Words,
-    exprmap: &ExprMap,
+    exprmap: &[u16],
     seats: &mut [u16; 1025],
     stacks: &mut StackRows,
     ends: Sizes,
-    k: usize,
     at: usize,
 ) -> Result<Sizes, Full>
     requires at_bound { (at < 16384) × (at + 2 * get_or words.now at 0 < 16384) × (length words.now ≡ 16384) }
-    requires k_bound { (k ≤ 1024) × (length exprmap.now ≡ 1024) }
-    requires by_index { (i : ℕ) → i < get_or words.now at 0 → get_or words.now (at + 1 + 2 * i) 0 < k }
+    requires by_index { (i : ℕ) → i < get_or words.now at 0 → get_or words.now (at + 1 + 2 * i) 0 < length exprmap.now }
     requires by_index_2 { (x : ℕ) → get_or exprmap.now x 0 ≤ 1024 }
     requires stacks { Stacks stacks.old (going ends) }
-    ensures { KeepNamesEnsures (keep_names (named_records words.now (at + 1) (get_or words.now at 0)) (take k exprmap.now) []) stacks.old (going ends) (told result) stacks.new }
+    ensures { KeepNamesEnsures (keep_names (named_records words.now (at + 1) (get_or words.now at 0)) exprmap.now []) stacks.old (going ends) (told result) stacks.new }
 {
     *seats = [0; 1025];
     let b = ends.bodytop as usize;
@@ -79,8 +78,12 @@ pub fn import_names(
         let j = i + 1;
         let w = stacks[BODY][j];
         if w != 0 {
-            e = import(source, derived, e, NAMES, w - 1)?;
-            stacks[BODY][j] = derived.maps[NAMES][(w - 1) as usize];
+            let r = Reference {
+                table: NAMES,
+                number: w - 1,
+            };
+            e = import(source, derived, e, r)?;
+            stacks[BODY][j] = derived.maps[NAMES][r.number as usize];
         }
     }
     Ok(e)

@@ -20,14 +20,15 @@ use Rattle.theory_bodies.specs.Context.{outer}
 use Rattle.theory_passes.specs.Pass.{arrive}
 use Rattle.theory_passes.specs.Operands.{outward1}
 use Rattle.theory_passes.specs.Light.{still}
-use Rattle.derive_state.specs.Refers.{code_p, target_of, unspanned, tab_of}
+use Rattle.derive_state.specs.Refers.{code_p, target_of}
 use Rattle.derive_state.specs.Source.{if_some, refers_to, less, number_of}
-use Rattle.derive_state.proofs.State.{tab_code, code_tab, code_low}
+use Rattle.derive_state.proofs.State.{tab_code, code_low}
 use Rattle.derive_imports.specs.declared.Reference.{Reference}
+use Rattle.derive_imports.specs.declared.Referent.{Referent}
+use Rattle.derive_imports.specs.declared.Referent.TheVariants as code
+use Rattle.derive_imports.specs.Referents.{at_place, referent_of}
+use Rattle.derive_imports.proofs.Referring.{refers_ref, refers_opt, refers_zero, record_told, own_told, none_told}
 use Rattle.function_references.specs.Fits.{Fits, FitN, record_of}
-use Rattle.function_outside.specs.declared.Referent.{Referent}
-use Rattle.function_outside.specs.declared.Referent.TheVariants as code
-use Rattle.function_outside.specs.Referents.{at_place, referent_of}
 
 -- ---- the two halves of the classes
 -- what a class below EXPR may refer to
@@ -94,19 +95,7 @@ inner_names (suc n) inner_opt e = names_opt
 pub reference_own : (c w : ℕ) → EXPR ≤ c → refers_to (target c) w ≡ 5 → Names (target c) w (number_of (target c) w)
 reference_own c w h e = inner_names w (inner c h) e
 
--- ---- tables, by their codes
-refers_ref : (t : Tab) (w : ℕ) → (refers_to (ref (table t)) w ≡ code_t t) × (number_of (ref (table t)) w ≡ w)
-unfolding refers_to number_of target_of code_p
-refers_ref t w = (rw (lt-ltb (code_t t) 6 (code_low t)), rw (lt-ltb (code_t t) 6 (code_low t)))
-
-refers_opt : (t : Tab) (n : ℕ) → (refers_to (opt (table t)) (suc n) ≡ code_t t) × (number_of (opt (table t)) (suc n) ≡ n)
-unfolding refers_to number_of target_of code_p if_some less
-refers_opt t n = (rw (le-ltb (8 + code_t t) 6 (omega arith), le-ltb (8 + code_t t) 8 (omega arith)) (omega arith), rw (le-ltb (8 + code_t t) 6 (omega arith)))
-
-refers_zero : (t : Tab) → refers_to (opt (table t)) zero ≡ 6
-unfolding refers_to target_of code_p if_some
-refers_zero t = rw (le-ltb (8 + code_t t) 6 (omega arith), le-ltb (8 + code_t t) 8 (omega arith))
-
+-- ---- records
 module _ (o : ℕ) (T : Tables) (s : Derived) where
   record_is : (t : Tab) (n : ℕ) → import_t o T t n s ≡ record_of o T (code_t t) n s
   unfolding record_of
@@ -117,69 +106,33 @@ module _ (o : ℕ) (T : Tables) (s : Derived) where
   record_none u n h = rw (le-ltb u 6 h, record_of)
 
 -- ---- what the code finds
--- spans are as copied words there
-referent_unspanned : (g : Target) (w : ℕ) → referent_of (unspanned g) w ≡ referent_of g w
-unfolding unspanned referent_of
-referent_unspanned copied w = refl
-referent_unspanned start w = refl
-referent_unspanned upto w = refl
-referent_unspanned (ref p) w = refl
-referent_unspanned (opt p) w = refl
+-- in the lower half of the classes there are no expressions, and in the upper one no records
+abbrev Low : Option Referent → Type 0
+Low None = Unit {0}
+Low (Some (code.Record r)) = Unit {0}
+Low (Some (code.Own e)) = ⊥
 
-module _ (s w : ℕ) where
-  referent_meant : {m : Target} → m ≡ unspanned (target s) → referent_of m w ≡ referent_of (target s) w
-  referent_meant is = rw is (referent_unspanned (target s) w)
+abbrev High : Option Referent → Type 0
+High None = Unit {0}
+High (Some (code.Record r)) = ⊥
+High (Some (code.Own e)) = Unit {0}
 
-  pub none_meant : copied ≡ unspanned (target s) → None ≡ referent_of (target s) w
-  unfolding referent_of
-  none_meant is = referent_meant is
+low_found : {g : Target} (w : ℕ) → Away g → Low (referent_of g w)
+unfolding referent_of at_place
+low_found w away_copied = tt
+low_found w away_start = tt
+low_found w away_upto = tt
+low_found w (away_ref t) = tt
+low_found zero (away_opt t) = tt
+low_found (suc n) (away_opt t) = tt
+low_found w away_function = tt
 
-  pub ref_meant : {p : Place} → ref p ≡ unspanned (target s) → at_place p w ≡ referent_of (target s) w
-  unfolding referent_of
-  ref_meant is = referent_meant is
-
-  opt_meant : {p : Place} → opt p ≡ unspanned (target s) → (v : ℕ) → w ≡ v → referent_of (opt p) v ≡ referent_of (target s) w
-  opt_meant {p} is v e = ap (referent_of (opt p)) (sym e) ∙ referent_meant is
-
-  pub zero_meant : {p : Place} → opt p ≡ unspanned (target s) → w ≡ 0 → None ≡ referent_of (target s) w
-  unfolding referent_of
-  zero_meant is none = opt_meant is 0 none
-
-  pub some_meant : {p : Place} → opt p ≡ unspanned (target s) → (w ≡ 0 → ⊥) → at_place p (w - 1) ≡ referent_of (target s) w
-  unfolding referent_of
-  some_meant is some = opt_meant is (suc (w - 1)) (omega arith)
-
-pub place_table : (t : ℕ) → t < 6 → (n : ℕ) → Some (code.Record (record { table = t; number = n })) ≡ at_place (table (tab_of t)) n
-unfolding at_place
-place_table t low n = rw (code_tab t low)
-
--- in the lower half of the classes, and in the upper one
-abbrev Low : Target → ℕ → Option Referent → Type 0
-Low g w None = 6 ≤ refers_to g w
-Low g w (Some (code.Record r)) = (r.table ≡ refers_to g w) × (r.number ≡ number_of g w) × (r.table < 6)
-Low g w (Some (code.Own e)) = ⊥
-
-abbrev High : Target → ℕ → Option Referent → Type 0
-High g w None = 6 ≤ refers_to g w
-High g w (Some (code.Record r)) = ⊥
-High g w (Some (code.Own e)) = Names g w e
-
-low_found : {g : Target} (w : ℕ) → Away g → Low g w (referent_of g w)
-unfolding referent_of at_place refers_to target_of code_p
-low_found w away_copied = omega arith
-low_found w away_start = omega arith
-low_found w away_upto = omega arith
-low_found w (away_ref t) = (sym (refers_ref t w).0, sym (refers_ref t w).1, code_low t)
-low_found zero (away_opt t) = omega (arith, refers_zero t)
-low_found (suc n) (away_opt t) = (sym (refers_opt t n).0, sym (refers_opt t n).1, code_low t)
-low_found w away_function = omega arith
-
-high_found : {g : Target} (w : ℕ) → Inner g → High g w (referent_of g w)
-unfolding referent_of at_place refers_to target_of code_p if_some
-high_found w inner_copied = omega arith
-high_found w inner_ref = names_ref
-high_found zero inner_opt = omega arith
-high_found (suc n) inner_opt = names_opt
+high_found : {g : Target} (w : ℕ) → Inner g → High (referent_of g w)
+unfolding referent_of at_place
+high_found w inner_copied = tt
+high_found w inner_ref = tt
+high_found zero inner_opt = tt
+high_found (suc n) inner_opt = tt
 
 module _ (s w : ℕ) where
   pub record_found : {x : Referent} {r : Reference} → x ≡ code.Record r → Some x ≡ referent_of (target s) w → (s < EXPR) × (r.table ≡ refers_to (target s) w) × (r.number ≡ number_of (target s) w) × (r.table < 6)
@@ -189,8 +142,8 @@ module _ (s w : ℕ) where
       e = rw is at found
 
       go : (b : Bool) → ltb s EXPR ≡ b → (s < EXPR) × (r.table ≡ refers_to (target s) w) × (r.number ≡ number_of (target s) w) × (r.table < 6)
-      go true q = let l = ltb-true s EXPR q in let f = subst (Low (target s) w) (sym e) (low_found w (away s l)) in (l, f.0, f.1, f.2)
-      go false q = absurd (subst (High (target s) w) (sym e) (high_found w (inner s (ltb-false s EXPR q))))
+      go true q = let f = record_told (target s) w e in (ltb-true s EXPR q, f.0, f.1, f.2)
+      go false q = absurd (subst High (sym e) (high_found w (inner s (ltb-false s EXPR q))))
 
   pub own_found : {x : Referent} {n : ℕ} → x ≡ code.Own n → Some x ≡ referent_of (target s) w → (EXPR ≤ s) × (5 ≡ refers_to (target s) w) × (n ≡ number_of (target s) w)
   own_found {x} {n} is found = go (ltb s EXPR) refl
@@ -199,15 +152,11 @@ module _ (s w : ℕ) where
       e = rw is at found
 
       go : (b : Bool) → ltb s EXPR ≡ b → (EXPR ≤ s) × (5 ≡ refers_to (target s) w) × (n ≡ number_of (target s) w)
-      go true q = absurd (subst (Low (target s) w) (sym e) (low_found w (away s (ltb-true s EXPR q))))
-      go false q = let l = ltb-false s EXPR q in let f = named_refers (subst (High (target s) w) (sym e) (high_found w (inner s l))) in (l, sym f.0, sym f.1)
+      go true q = absurd (subst Low (sym e) (low_found w (away s (ltb-true s EXPR q))))
+      go false q = let f = own_told (target s) w e in (ltb-false s EXPR q, f.0, f.1)
 
   pub nothing_found : None ≡ referent_of (target s) w → 6 ≤ refers_to (target s) w
-  nothing_found e = go (ltb s EXPR) refl
-    where
-      go : (b : Bool) → ltb s EXPR ≡ b → 6 ≤ refers_to (target s) w
-      go true q = subst (Low (target s) w) (sym e) (low_found w (away s (ltb-true s EXPR q)))
-      go false q = subst (High (target s) w) (sym e) (high_found w (inner s (ltb-false s EXPR q)))
+  nothing_found = none_told (target s) w
 
 -- ---- what a cell imports
 module _ (o : ℕ) (M : Module) (follow : ℕ → Derived → Derived) where

@@ -14,7 +14,6 @@ ghost use Rattle.theory_passes.specs.Light.{still};
 ghost use Rattle.derive_state.specs.Source.{mod_of};
 ghost use Rattle.derive_state.specs.Held.{ValidArrays, Valid};
 ghost use Rattle.function_references.specs.Fits.{FitN, Ground, Legible};
-ghost use Rattle.function_references.specs.Cuts.{Expressions};
 ghost use Rattle.function_builder.specs.Stacks.{Under};
 ghost use Rattle.function_builder.specs.Makes.{Lays, Builds};
 ghost use Rattle.function_words.specs.Runs.{needs, glances, Bodied, Drawn, Passes};
@@ -40,7 +39,6 @@ fn import_body_word(
     i: usize,
 ) -> Result<Sizes, Full>
     requires ground { Ground function.source.image.words.now function.source.image.tags.now function.source.image.n }
-    requires expressions { Expressions function.source.image.words.now function.source.image.tags.now function.places.now function.count }
     requires i_bound { (i < 16384) × (All (FitN function.source.image.words.now function.count) (ref_of (target (get_or function.source.image.tags.now i 0)) (get_or function.source.image.words.now i 0) [])) }
     requires valid_arrays { Valid derived.old ends }
     requires under { Under function.count exprmap.old stacks.old function.base (going ends) }
@@ -69,7 +67,6 @@ fn first_pass(
     b: usize,
 ) -> Result<Sizes, Full>
     requires ground { Ground function.source.image.words.now function.source.image.tags.now function.source.image.n }
-    requires expressions { Expressions function.source.image.words.now function.source.image.tags.now function.places.now function.count }
     requires b_le_k { b ≤ function.count }
     requires valid_arrays { Valid derived.old ends }
     requires under { Under function.count exprmap.old stacks.old function.base (going ends) }
@@ -92,7 +89,6 @@ fn second_pass(
     b: usize,
 ) -> Result<Sizes, Full>
     requires ground { Ground function.source.image.words.now function.source.image.tags.now function.source.image.n }
-    requires expressions { Expressions function.source.image.words.now function.source.image.tags.now function.places.now function.count }
     requires b_le_k { b ≤ function.count }
     requires by_index { (buckets : List ℕ) × ValidArrays derived.now.log.now derived.now.logtags.now derived.now.starts.now derived.now.maps.now buckets (going derived.now.sizes) }
     requires under { Under function.count exprmap.old stacks.old function.base (going derived.now.sizes) }
@@ -128,7 +124,6 @@ fn emit(
     b: usize,
 ) -> Result<Sizes, Full>
     requires ground { Ground function.source.image.words.now function.source.image.tags.now function.source.image.n }
-    requires expressions { Expressions function.source.image.words.now function.source.image.tags.now function.places.now function.count }
     requires b_le_k { b ≤ function.count }
     requires valid_arrays { Valid derived.old ends }
     requires under { Under function.count exprmap.old stacks.old function.base (going ends) }
@@ -163,7 +158,6 @@ fn import_compare(
     end: usize,
 ) -> Result<Sizes, Full>
     requires ground { Ground function.source.image.words.now function.source.image.tags.now function.source.image.n }
-    requires expressions { Expressions function.source.image.words.now function.source.image.tags.now function.places.now function.count }
     requires legible { (Legible function.source.image.words.now function.source.image.tags.now function.count i end) × (i < end) }
     requires valid_arrays { Valid derived.old ends }
     requires under { Under function.count exprmap.old stacks.old function.base (going ends) }
@@ -190,7 +184,6 @@ pub fn import_word(
     u: bool,
 ) -> Result<Sizes, Full>
     requires ground { Ground function.source.image.words.now function.source.image.tags.now function.source.image.n }
-    requires expressions { Expressions function.source.image.words.now function.source.image.tags.now function.places.now function.count }
     requires bodied { (Bodied function.source.image.words.now function.source.image.tags.now function.count i end) × (i < end) }
     requires valid_arrays { Valid derived.old ends }
     requires under { Under function.count exprmap.old stacks.old function.base (going ends) }

@@ -5,7 +5,9 @@
 ghost use Rattle.std.specs.Prelude.{◌≡◌, ◌++◌, ℕ, ◌+◌, ◌-◌, ◌*◌, ◌/◌, ◌≤◌, ◌<◌, length, get_or};
 ghost use Rattle.std.proofs.Math.Seq.{slice};
 ghost use Rattle.std.proofs.lemmas.List.Edits.{sets};
+ghost use Rattle.model.specs.FunctionView.{expressions_at};
 ghost use Rattle.model.specs.Between.{between};
+ghost use Rattle.base_views.specs.Functions.{Standing, Body};
 ghost use Rattle.derive_state.specs.Held.{row};
 ghost use Rattle.derive_state.specs.Sizes.{going, told};
 ghost use Rattle.function_builder.specs.Stacks.{Stacks};
@@ -13,6 +15,7 @@ ghost use Rattle.function_names.specs.Named.{pairs_in};
 ghost use Rattle.function_record.specs.Closed.{named_classes, closing, AppendRecordEnsures};
 
 use base_classes::{EXPRESSIONS, NAME, NAMED, NAMED_EXPR};
+use base_views::{Image, expressions_at};
 use base_words::Tags;
 use derive_state::{Full, Log, LogTags, Sizes, StackRows, Starts};
 use function_builder::{BODY, CLASSES, WORDS};
@@ -119,9 +122,24 @@ pub struct FunctionPlace {
     pub end: usize,
 }
 
+impl FunctionPlace {
+    // Where the function from `start` to `end` is.
+    pub fn of(image: Image, start: usize, end: usize) -> FunctionPlace
+        requires { Standing image.words.now image.tags.now start }
+        ensures { (result.start ≡ start) × (result.exprs ≡ expressions_at start image.entry.words.now) × Body result.body image.entry.words.now image.entry.tags.now start × (result.end ≡ end) }
+    {
+        FunctionPlace {
+            start,
+            exprs: expressions_at(image.words, start),
+            body: image.body_at(start),
+            end,
+        }
+    }
+}
+
 // Appends the function on the stacks, above `before`, as a record of table t, which has at most `limit`, after the `head` words above its expressions. Its
 // declarations and its body have the classes that the source has in their place. It takes the three arrays that it writes, not the module: that maps and buckets
-// stay needs no clause so.
+// stay needs no clause so. `limit` is a parameter, and not read from the table: the promise holds for any.
 pub fn append_record(
     tags: &Tags,
     log: &mut Log,

@@ -9,7 +9,7 @@ use Rattle.intake_statements.specs.Tape.{Steps, steps_next, stepped}
 use Rattle.std.specs.Bool.{then_some}
 use Rattle.intake_blocks.specs.declared.Flow.{Flow}
 use Rattle.intake_blocks.specs.declared.Flow.TheVariants.{Through, Continues}
-use Rattle.intake_blocks.specs.Found.{flow_of, told, kept_of}
+use Rattle.intake_blocks.specs.Found.{flow_of, told, kept_of, StmtHere}
 
 -- ---- through a block
 pub record Skipping (ws : List ℕ) (n₀ i₀ k i : ℕ) : Type 0 where
@@ -69,3 +69,7 @@ pub kept_continues : (keep fin : ℕ) (h : Bool) → Continues ≡ flow_of h →
 unfolding flow_of kept_of
 kept_continues keep fin true p = refl
 kept_continues keep fin false p = absurd (other (sym p))
+
+-- ---- a statement whose scope stays up to any word from its end on
+pub here_for : {ws ts st : List ℕ} {count at stop k keep : ℕ} → StmtHere ws ts st count at stop k → stop ≤ keep → StmtHere ws ts st count at stop keep
+here_for here h = record { exprs = here.exprs; holds = here.holds; ends = here.ends; later = here.later; keeps = h }

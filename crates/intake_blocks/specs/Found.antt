@@ -31,6 +31,7 @@ pub record Finds (count q k : ℕ) (u₀ u : List ℕ) (r : Option Flow) (ok hol
   pub scope : ok ≡ true → Scope count q k ρ δ u
   pub kept : ok ≡ true → Kept k u₀ u
 
+-- a place, by what may stand there: a Break, a Continue, a Return
 abbrev pub place_of : Bool → Bool → Bool → Place
 place_of b c r = record { breaks = b; continues = c; returns = r }
 
@@ -39,6 +40,7 @@ unfoldable pub kept_of : Bool → ℕ → ℕ → ℕ
 kept_of h keep fin = elim h [ true ↦ fin | false ↦ keep ]
 
 -- ---- what the functions on a body require, and what they find
+-- the words from `at` to `stop` are a statement, which keeps what it evaluates up to the word keep
 pub record StmtHere (ws ts st : List ℕ) (count at stop keep : ℕ) : Type 0 where
   pub exprs : Exprs ws ts st count
   pub holds : HoldsS ws ts at stop (stmt_of ws ts at stop)
@@ -46,6 +48,7 @@ pub record StmtHere (ws ts st : List ℕ) (count at stop keep : ℕ) : Type 0 wh
   pub later : 0 < at
   pub keeps : stop ≤ keep
 
+-- the words from `at` to `fin` are a block, whose scope stays up to the word keep
 pub record BlockHere (ws ts st : List ℕ) (count at fin keep : ℕ) : Type 0 where
   pub exprs : Exprs ws ts st count
   pub holds : HoldsB ws ts at fin (block_of ws ts at fin)
@@ -53,16 +56,20 @@ pub record BlockHere (ws ts st : List ℕ) (count at fin keep : ℕ) : Type 0 wh
   pub later : 0 < at
   pub keeps : fin ≤ keep
 
+-- what is found of a statement s, with ρ in scope and δ evaluated before it
 abbrev pub FindsS : List ℕ → List ℕ → List ℕ → List Bool → ℕ → ℕ → ℕ → ℕ → Place → List ℕ → List ℕ → Option Flow → Stmt Range → List ℕ → List ℕ → Type 0
 FindsS ws ts st ini count at stop keep p u₀ u r s ρ δ =
     Finds count stop keep u₀ u r (fine_s (exprs_of ws ts st count) (marks ws ts st count ini) s p ρ δ) (holds_s (expand_s s (marks ws ts st count ini))) (add_s (expand_s s (marks ws ts st count ini)) ρ) (done_s s δ)
 
+-- the same of a block b
 abbrev pub FindsB : List ℕ → List ℕ → List ℕ → List Bool → ℕ → ℕ → ℕ → ℕ → Place → List ℕ → List ℕ → Option Flow → Block Range → List ℕ → List ℕ → Type 0
 FindsB ws ts st ini count at fin keep p u₀ u r b ρ δ =
     Finds count fin keep u₀ u r (fine_b (exprs_of ws ts st count) (marks ws ts st count ini) b p ρ δ) (holds_b (expand b (marks ws ts st count ini))) (cont_b (expand b (marks ws ts st count ini)) ρ) (done_b b δ)
 
+-- what is found of the statement from `at` to `stop`, whatever is in scope before it
 pub record FoundS (ws ts st : List ℕ) (ini : List Bool) (count at stop keep : ℕ) (p : Place) (u₀ u : List ℕ) (r : Option Flow) : Type 0 where
   pub found : (ρ δ : List ℕ) → Scope count at keep ρ δ u₀ → FindsS ws ts st ini count at stop keep p u₀ u r (stmt_of ws ts at stop) ρ δ
 
+-- the same of the block from `at` to `fin`
 pub record FoundB (ws ts st : List ℕ) (ini : List Bool) (count at fin keep : ℕ) (p : Place) (u₀ u : List ℕ) (r : Option Flow) : Type 0 where
   pub found : (ρ δ : List ℕ) → Scope count at keep ρ δ u₀ → FindsB ws ts st ini count at fin keep p u₀ u r (block_of ws ts at fin) ρ δ

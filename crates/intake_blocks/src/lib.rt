@@ -4,7 +4,7 @@
 // Blocks and statements are walked by `while`: each says where the next one starts, which no range does.
 #![tactic(auto)]
 
-ghost use Rattle.std.specs.Prelude.{◌≡◌, Bool, true, ◌||◌, [], ◌+◌, ◌≤◌, ◌<◌, get_or};
+ghost use Rattle.std.specs.Prelude.{◌≡◌, ℕ, Bool, true, ◌||◌, [], ◌+◌, ◌≤◌, ◌<◌, get_or};
 ghost use Rattle.model.specs.Scope.{in_body};
 ghost use Rattle.intake_statements.specs.Fine.{fine_b};
 ghost use Rattle.intake_statements.specs.Tape.{block_of, Steps, stepped, exprs_of, marks};
@@ -65,21 +65,20 @@ fn skip(words: &Words, at: usize) -> usize
     i
 }
 
-// A statement with blocks that is no Loop: its reads, and its blocks. Here and in `looped` the contract alone speaks of `keep`, which is no ghost: a function with
-// a ghost clause that is in a cycle of calls gets no generated proof.
+// A statement with blocks that is no Loop: its reads, and its blocks. All that it evaluates is in blocks, so that its contract, like that of `looped`, holds for any
+// word `keep`.
 #[cycle(block_looped_parts_stmt)]
 fn parts(
     expressions: Expressions,
     until: &mut [usize; 1024],
     at: usize,
     stop: usize,
-    keep: usize,
     place: Place,
 ) -> Option<Flow>
-    requires stmt_here { StmtHere expressions.image.words.now expressions.image.tags.now expressions.starts.now expressions.count at stop keep }
+    requires stmt_here { StmtHere expressions.image.words.now expressions.image.tags.now expressions.starts.now expressions.count at stop stop }
     requires nonzero { (0 < get_or expressions.image.words.now (at + 1) 0) × (get_or expressions.image.words.now (at + 1) 0 < 4) }
     requires breaks_value { get_or expressions.image.words.now (at + 1) 0 ≡ 3 → place.breaks ≡ true }
-    ensures { FoundS expressions.entry.image.words.now expressions.entry.image.tags.now expressions.entry.starts.now expressions.entry.initial.now expressions.entry.count at stop keep (place_of place.breaks place.continues place.returns) until.old until.new result }
+    ensures { (keep : ℕ) → stop ≤ keep → FoundS expressions.entry.image.words.now expressions.entry.image.tags.now expressions.entry.starts.now expressions.entry.initial.now expressions.entry.count at stop keep (place_of place.breaks place.continues place.returns) until.old until.new result }
 {
     let mut i = at + 4;
     let mut flow = Flow::Through;
@@ -104,12 +103,11 @@ fn looped(
     until: &mut [usize; 1024],
     at: usize,
     stop: usize,
-    keep: usize,
     place: Place,
 ) -> Option<Flow>
-    requires stmt_here { StmtHere expressions.image.words.now expressions.image.tags.now expressions.starts.now expressions.count at stop keep }
+    requires stmt_here { StmtHere expressions.image.words.now expressions.image.tags.now expressions.starts.now expressions.count at stop stop }
     requires at_value { get_or expressions.image.words.now (at + 1) 0 ≡ 4 }
-    ensures { FoundS expressions.entry.image.words.now expressions.entry.image.tags.now expressions.entry.starts.now expressions.entry.initial.now expressions.entry.count at stop keep (place_of place.breaks place.continues place.returns) until.old until.new result }
+    ensures { (keep : ℕ) → stop ≤ keep → FoundS expressions.entry.image.words.now expressions.entry.image.tags.now expressions.entry.starts.now expressions.entry.initial.now expressions.entry.count at stop keep (place_of place.breaks place.continues place.returns) until.old until.new result }
 {
     let inside = Place {
         breaks: true,
@@ -145,15 +143,15 @@ fn stmt(
     match expressions.image.words[at + 1] {
         EMIT => emit(expressions, until, at, keep).then_some(Flow::Through),
         // A Block or an If.
-        ..SWITCH => parts(expressions, until, at, stop, keep, place),
+        ..SWITCH => parts(expressions, until, at, stop, place),
         SWITCH => {
             let inside = Place {
                 breaks: true,
                 ..place
             };
-            parts(expressions, until, at, stop, keep, inside)
+            parts(expressions, until, at, stop, inside)
         }
-        LOOP => looped(expressions, until, at, stop, keep, place),
+        LOOP => looped(expressions, until, at, stop, place),
         BREAK => place.breaks.then_some(Flow::Through),
         CONTINUE => place.continues.then_some(Flow::Continues),
         RETURN if !place.returns => None,

@@ -13,6 +13,7 @@ listing at (suc n) j = at j ∷ listing at n (suc j)
 unfoldable pub place_of : List ℕ → ℕ → ℕ → ℕ
 place_of ws k j = elim (eqb k 8) [ true ↦ offset_at 8 ws + 3 + 2 * j | false ↦ record_at k j ws ]
 
+-- the first word of one
 unfoldable pub number_at : List ℕ → ℕ → ℕ → ℕ
 number_at ws k j = get_or ws (place_of ws k j) 0
 
@@ -23,9 +24,11 @@ pub record Placed (ws : List ℕ) (k : ℕ) : Type 0 where
   pub place : (j : ℕ) → j < count_at k ws → place_of ws k j < 16384
 
 -- ---- names
+-- name j, its words
 unfoldable pub name_at : List ℕ → ℕ → List ℕ
 name_at ws j = slice (record_at 0 j ws) (record_end 0 j ws) ws
 
+-- each of them is in the words; a clause, since a type for it would be a struct of one reference, of more lines than the three clauses that have it
 pub record Spelled (ws : List ℕ) : Type 0 where
   pub long : length ws ≡ 16384
   pub placed : Placed ws 0

@@ -26,9 +26,10 @@ use Rattle.theory_image.specs.Members.{no_mem, mem_left, mem_right, mem_cases}
 use Rattle.model.specs.Between.{between}
 use Rattle.theory_image.specs.Betweens.{held-between}
 use Rattle.intake_initialisers.specs.Lists.{Lists, Listed, Initialised}
-use Rattle.intake_initialisers.specs.declared.Visited.{Visited}
-use Rattle.intake_initialisers.specs.Marks.{finds, on, blank, inits, unvisited, Visits, Room, Done, Work, Starting, Reaching, Reaches}
-use Rattle.intake_initialisers.proofs.Visiting.{mem_one, visits_none, room_after}
+use Rattle.intake_initialisers.specs.Room.{blank, Room}
+use Rattle.intake_initialisers.specs.declared.visited.Visited.{Visited}
+use Rattle.intake_initialisers.specs.Marks.{finds, on, inits, Unvisited, Visits, Done, Work, Starting, Reaching, Reaches}
+use Rattle.intake_initialisers.proofs.Visiting.{mem_one, visits_none, few_after}
 
 -- ---- the last of the list
 mem_last : (l : List ℕ) (t : ℕ) → 0 < t → t ≤ length l → take t l ≡ take (t - 1) l ++ (get_or l (t - 1) 0 ∷ [])
@@ -58,16 +59,19 @@ module _ (f : Function) (v : Visited) where
 
 -- ---- one expression
 -- what is left when one is taken from the list
-abbrev pub popped : Visited → Visited
-popped v = record { marks = v.marks; list = v.list; top = v.top - 1; count = v.count }
+abbrev pub popped : (v : Visited) → Room v.marks v.list (v.top - 1) v.count → Visited
+popped v left = record { marks = v.marks; list = v.list; top = v.top - 1; count = v.count; room = left }
+
+pub left_room : (v : Visited) → Room v.marks v.list (v.top - 1) v.count
+left_room v = record { marks_long = v.room.marks_long; list_long = v.room.list_long; room = omega (arith, v.room.room) }
 
 -- the last of the list is one that is reached
 module _ (f : Function) (v : Visited) (w : Work f v) (h : 0 < v.top) where
   few : v.top ≤ 1024
-  few = omega (arith, w.room.room, w.room.few)
+  few = omega (arith, v.room.room, w.few)
 
   taken : take v.top v.list ≡ take (v.top - 1) v.list ++ (get_or v.list (v.top - 1) 0 ∷ [])
-  taken = mem_last v.list v.top h (omega (arith, few, w.room.list_long))
+  taken = mem_last v.list v.top h (omega (arith, few, v.room.list_long))
 
   is_marked : on v.marks (get_or v.list (v.top - 1) 0) ≡ true
   is_marked = w.held (get_or v.list (v.top - 1) 0) (subst (Mem (get_or v.list (v.top - 1) 0)) (sym taken) (mem_right (take (v.top - 1) v.list) here))
@@ -78,9 +82,6 @@ module _ (f : Function) (v : Visited) (w : Work f v) (h : 0 < v.top) where
   reached : Reached f (get_or v.list (v.top - 1) 0)
   reached = (w.only (get_or v.list (v.top - 1) 0) is_marked).1
 
-  rest-room : Room (popped v)
-  rest-room = record { marks_long = w.room.marks_long; list_long = w.room.list_long; few = w.room.few; room = omega (arith, w.room.room) }
-
   -- its kind is barred
   barred : constant_kind (kind_at f.exprs (get_or v.list (v.top - 1) 0)) ≡ false → false ≡ initialised f
   barred q = go (initialised f) refl
@@ -90,10 +91,10 @@ module _ (f : Function) (v : Visited) (w : Work f v) (h : 0 < v.top) where
       go false i = sym i
 
   -- or not, and what it reads is visited
-  visited : constant_kind (kind_at f.exprs (get_or v.list (v.top - 1) 0)) ≡ true → (v₁ : Visited) → Visits (ops f.exprs (get_or v.list (v.top - 1) 0)) (popped v) v₁ → Work f v₁
-  visited q v₁ a = record {
+  visited : constant_kind (kind_at f.exprs (get_or v.list (v.top - 1) 0)) ≡ true → (left : Room v.marks v.list (v.top - 1) v.count) (v₁ : Visited) → Visits (ops f.exprs (get_or v.list (v.top - 1) 0)) (popped v left) v₁ → Work f v₁
+  visited q left v₁ a = record {
     many = a.count_same ∙ w.many;
-    room = room_after rest-room a;
+    few = few_after w.few a;
     only = λ y p. let u = ⊎_elim (w.only y) (λ u. (u.0, step reached u.1)) (a.new y p) in (omega (arith, u.0, a.count_same), u.1);
     held = λ y p. ⊎_elim (λ u. a.keeps y (w.held y (subst (Mem y) (sym taken) (mem_left (get_or v.list (v.top - 1) 0 ∷ []) u)))) (λ u. u) (a.listed y p);
     begun = λ y p l. a.keeps y (w.begun y p (omega (arith, l, a.count_same)));
@@ -123,18 +124,18 @@ module _ (words tags starts : List ℕ) (v₀ : Visited) where
     reach_done h = let z : v.top ≡ 0 = omega arith in record { same = λ f locals exprs end ls st w. reached-fine f v (inv.going f locals exprs end ls st w) z; left = λ q f locals exprs end ls st w. (inv.going f locals exprs end ls st w, z) }
 
     module _ (pre : Reaching words tags starts v₀) (h : 0 < v.top) where
-      this : Work pre.function v
-      this = inv.going pre.function pre.locals pre.exprs pre.end pre.lists pre.starting pre.work
+      pub reach_this : Work pre.function v
+      reach_this = inv.going pre.function pre.locals pre.exprs pre.end pre.lists pre.starting pre.work
 
       pub reach_list : v.top - 1 < 1024
-      reach_list = omega (arith, few pre.function v this h)
+      reach_list = omega (arith, few pre.function v reach_this h)
 
       module _ (x : ℕ) (x_is : x ≡ get_or v.list (v.top - 1) 0) where
         pub reach_below : x < v.count
-        reach_below = rw x_is (below pre.function v this h)
+        reach_below = rw x_is (below pre.function v reach_this h)
 
         pub reach_start : x < 1024
-        reach_start = omega (arith, reach_below, this.room.few)
+        reach_start = omega (arith, reach_below, reach_this.few)
 
         module _ (at : ℕ) (at-is : at ≡ get_or starts x 0) where
           -- where the expression is
@@ -161,8 +162,8 @@ module _ (words tags starts : List ℕ) (v₀ : Visited) where
           reach_at =
               let f = pre.function in
               let ls = pre.lists in
-              let p = at_part f pre.locals pre.exprs pre.end ls pre.starting this in
-              omega (arith, part_end p, p.within, long_part f pre.locals pre.exprs pre.end ls pre.starting this, ls.small)
+              let p = at_part f pre.locals pre.exprs pre.end ls pre.starting reach_this in
+              omega (arith, part_end p, p.within, long_part f pre.locals pre.exprs pre.end ls pre.starting reach_this, ls.small)
 
           module _ (b : Bool) (b-is : b ≡ constant_kind (get_or words at 0)) where
             kind_is : (f : Function) (locals exprs end : ℕ) → Lists words tags locals exprs end f → Starting f v₀.count (exprs + 1) starts → Work f v → constant_kind (kind_at f.exprs (get_or v.list (v.top - 1) 0)) ≡ b
@@ -179,7 +180,7 @@ module _ (words tags starts : List ℕ) (v₀ : Visited) where
               part-to f locals exprs end ls st w = rw (to_at f locals exprs end ls st) at (at_part f locals exprs end ls st w)
 
               this_part : Part pre.lists.cells at to (get_or pre.function.exprs x [])
-              this_part = part-to pre.function pre.locals pre.exprs pre.end pre.lists pre.starting this
+              this_part = part-to pre.function pre.locals pre.exprs pre.end pre.lists pre.starting reach_this
 
               pub reach_rising : at ≤ to
               reach_rising = this_part.rising
@@ -187,10 +188,7 @@ module _ (words tags starts : List ℕ) (v₀ : Visited) where
               pub reach_small : to ≤ 16384
               reach_small = omega (arith, this_part.within, pre.lists.small)
 
-              pub reach_room : Room (popped v)
-              reach_room = rest-room pre.function v this h
-
-              module _ (v₁ : Visited) (got : Visits (ops_of (between tags words at to)) (popped v) v₁) where
+              module _ (left : Room v.marks v.list (v.top - 1) v.count) (v₁ : Visited) (got : Visits (ops_of (between tags words at to)) (popped v left) v₁) where
                 pub reach_less : v₁.top + blank v₁.count v₁.marks < v.top + blank v.count v.marks
                 reach_less = omega (arith, got.moved)
 
@@ -201,7 +199,7 @@ module _ (words tags starts : List ℕ) (v₀ : Visited) where
                   going = λ f locals exprs end ls st w₀.
                       let w = inv.going f locals exprs end ls st w₀ in
                       let p : between tags words at to ≡ get_or f.exprs (get_or v.list (v.top - 1) 0) [] = rw (← x_is) (held-between ls.own.held (part-to f locals exprs end ls st w)) in
-                      visited f v w h (kind_is f locals exprs end ls st w ∙ not-false b q) v₁ (subst (λ cs. Visits (ops_of cs) (popped v) v₁) p got);
+                      visited f v w h (kind_is f locals exprs end ls st w ∙ not-false b q) left v₁ (subst (λ cs. Visits (ops_of cs) (popped v left) v₁) p got);
                 }
 
 -- ---- where the expressions start: the places that are found
@@ -313,6 +311,16 @@ none-on (suc n) (suc y) h = none-on n y h
 get_d_sets : (l vs : List ℕ) (x : ℕ) → length vs ≤ length l → x < length vs → get_or (sets l 0 vs) x 0 ≡ get_or vs x 0
 get_d_sets l vs x h k = ap (λ s. get_or s x 0) (sets-eq vs l 0 (omega arith)) ∙ get_or-append vs (drop (0 + length vs) l) 0 x k
 
+-- there is room where nothing is on the list
+pub room_first : (e : ℕ) (marks : List Bool) (l₀ : List ℕ) → length marks ≡ 1024 → length l₀ ≡ 1024 → Room marks l₀ 0 e
+room_first e marks l₀ long list_long = record { marks_long = long; list_long = list_long; room = omega (arith, blank_most e marks) }
+
+unvisited : ℕ → Visited
+unvisited e = record { marks = replicate 1024 false; list = replicate 1024 0; top = 0; count = e; room = room_first e (replicate 1024 false) (replicate 1024 0) (length-replicate 1024 false) (length-replicate {A = ℕ} 1024 0) }
+
+pub none_visited : {e : ℕ} {l : List ℕ} {left : Room (replicate 1024 false) l 0 e} → Unvisited e l (record { marks = replicate 1024 false; list = l; top = 0; count = e; room = left })
+none_visited = record { marks_are = refl; list_is = refl; top_is = refl; count_is = refl }
+
 -- the places of the two lists
 module _ {words tags : List ℕ} {locals exprs end : ℕ} {f : Function} (ls : Lists words tags locals exprs end f) where
   pub end_in : end ≤ 16384
@@ -354,18 +362,14 @@ module _ {words tags : List ℕ} {locals exprs end : ℕ} {f : Function} (ls : L
         let n : count ≡ length f.locals = q ∙ ap (λ o. get_or words o 0) ls.locals_at_lem ∙ locals_count ls.own in
         rw (n, ls.locals_at_lem) (inits-all ls.own.held f.locals (locals_at ls.start words + 1) (expressions_at ls.start words) (list_all LOCALS f.locals (parts ls.own).locals_part) ls.own.well.locals_ok.each)
 
-    -- nothing is marked, and nothing is on the list
-    pub room_first : (l₀ : List ℕ) → length l₀ ≡ 1024 → Room (unvisited e l₀)
-    room_first l₀ long = record { marks_long = length-replicate 1024 false; list_long = long; few = many_few; room = omega (arith, blank_most e (replicate 1024 false)) }
-
-    pub begun : (count : ℕ) → count ≡ get_or words locals 0 → (l₀ : List ℕ) → length l₀ ≡ 1024 → (v : Visited) → Visits (inits count (drop (locals + 1) words)) (unvisited e l₀) v → Work f v
-    begun count q l₀ long v a = record {
-      many = a.count_same ∙ many_is;
-      room = room_after (room_first l₀ long) a;
-      only = λ y p. ⊎_elim (λ u. absurd (none-on 1024 y u)) (λ u. (omega (arith, u.0, a.count_same), root (subst (Mem y) r u.1))) (a.new y p);
-      held = λ y p. ⊎_elim (λ u. absurd (no_mem u)) (λ u. u) (a.listed y p);
+    pub begun : (count : ℕ) → count ≡ get_or words locals 0 → {l₀ : List ℕ} (v₀ : Visited) → Unvisited e l₀ v₀ → (v : Visited) → Visits (inits count (drop (locals + 1) words)) v₀ v → Work f v
+    begun count q v₀ n v a = record {
+      many = a.count_same ∙ n.count_is ∙ many_is;
+      few = omega (arith, a.count_same, n.count_is, many_few);
+      only = λ y p. ⊎_elim (λ u. absurd (none-on 1024 y (rw n.marks_are at u))) (λ u. (omega (arith, u.0, a.count_same), root (subst (Mem y) r u.1))) (a.new y p);
+      held = λ y p. ⊎_elim (λ u. absurd (no_mem (rw n.top_is at u))) (λ u. u) (a.listed y p);
       begun = λ y p l. a.hits y (subst (Mem y) (sym r) p) (omega (arith, l, a.count_same));
-      settled = λ y p. ⊎_elim (λ u. absurd (none-on 1024 y u)) (λ u. inl u.2) (a.new y p);
+      settled = λ y p. ⊎_elim (λ u. absurd (none-on 1024 y (rw n.marks_are at u))) (λ u. inl u.2) (a.new y p);
     }
       where
         r : inits count (drop (locals + 1) words) ≡ roots f.locals
@@ -388,24 +392,24 @@ module _ (words tags : List ℕ) (locals exprs end : ℕ) (pre : Listed words ta
     pub init-count : locals + 1 + 5 * count ≤ 16384
     init-count = let ls = pre.lists in omega (arith, exprs_in ls, end_in ls, locals_in ls count count_is)
 
-    pub init-room : (l₀ : List ℕ) → length l₀ ≡ 1024 → Room (unvisited e l₀)
-    init-room l₀ long = room_first pre.lists e e-is l₀ long
+    pub init_most : e ≤ 1024
+    init_most = many_few pre.lists e e-is
 
     -- without locals nothing is reached
     pub init-empty : count ≡ 0 → Initialised true words tags locals exprs end
-    unfolding inits
-    init-empty z = let l₀ = replicate 1024 0 in record { same = λ f ls. reached-fine f (unvisited e l₀) (begun ls e e-is count count_is l₀ (length-replicate {A = ℕ} 1024 0) (unvisited e l₀) (rw z (visits_none (unvisited e l₀)))) refl }
+    unfolding inits unvisited
+    init-empty z = record { same = λ f ls. reached-fine f (unvisited e) (begun ls e e-is count count_is (unvisited e) none_visited (unvisited e) (rw z (visits_none (unvisited e)))) refl }
 
     pub init_few : length (finds (exprs + 1) (slice (exprs + 1) end tags)) ≤ 1025
     init_few = found_few pre.lists e e-is
 
-    module _ (l₀ : List ℕ) (long : length l₀ ≡ 1024) (v : Visited) (a : Visits (inits count (drop (locals + 1) words)) (unvisited e l₀) v) where
+    module _ {l₀ : List ℕ} (v₀ : Visited) (n : Unvisited e l₀ v₀) (v : Visited) (a : Visits (inits count (drop (locals + 1) words)) v₀ v) where
       pub init-none : v.top ≡ 0 → Initialised true words tags locals exprs end
-      init-none z = record { same = λ f ls. reached-fine f v (begun ls e e-is count count_is l₀ long v a) z }
+      init-none z = record { same = λ f ls. reached-fine f v (begun ls e e-is count count_is v₀ n v a) z }
 
       module _ (starts : List ℕ) (found_at : starts ≡ sets (replicate 1025 0) 0 (finds (exprs + 1) (slice (exprs + 1) end tags))) where
         init_starting : {f : Function} → Lists words tags locals exprs end f → Starting f v.count (exprs + 1) starts
-        init_starting {f} ls = subst (λ n. Starting f n (exprs + 1) starts) (sym a.count_same) (starting ls e e-is (replicate 1025 0) starts (length-replicate {A = ℕ} 1025 0) found_at)
+        init_starting {f} ls = subst (λ k. Starting f k (exprs + 1) starts) (sym (a.count_same ∙ n.count_is)) (starting ls e e-is (replicate 1025 0) starts (length-replicate {A = ℕ} 1025 0) found_at)
 
         pub init_reach : Reaching words tags starts v
         init_reach = record {
@@ -415,8 +419,8 @@ module _ (words tags : List ℕ) (locals exprs end : ℕ) (pre : Listed words ta
           end = end;
           lists = pre.lists;
           starting = init_starting pre.lists;
-          work = begun pre.lists e e-is count count_is l₀ long v a;
+          work = begun pre.lists e e-is count count_is v₀ n v a;
         }
 
         pub init_done : (r : Bool) (v₁ : Visited) → Reaches r words tags starts v v₁ → Initialised r words tags locals exprs end
-        init_done r v₁ got = record { same = λ f ls. got.same f locals exprs end ls (init_starting ls) (begun ls e e-is count count_is l₀ long v a) }
+        init_done r v₁ got = record { same = λ f ls. got.same f locals exprs end ls (init_starting ls) (begun ls e e-is count count_is v₀ n v a) }

@@ -17,9 +17,11 @@ pub record Lists (words tags : List ℕ) (locals exprs end : ℕ) (f : Function)
   pub locals_at_lem : locals ≡ locals_at start words
   pub exprs_at : exprs ≡ expressions_at start words
 
+-- a function has its lists there
 pub record Listed (words tags : List ℕ) (locals exprs end : ℕ) : Type 0 where
   pub function : Function
   pub lists : Lists words tags locals exprs end function
 
+-- the answer is the model's
 pub record Initialised (r : Bool) (words tags : List ℕ) (locals exprs end : ℕ) : Type 0 where
   pub same : (f : Function) → Lists words tags locals exprs end f → r ≡ initialised f

@@ -8,7 +8,8 @@ use Rattle.model.specs.Operands.{optional, ops, kind_at, constant_kind}
 use Rattle.model.specs.Initial.{Mem, Reached, roots, initialised}
 use Rattle.theory_image.specs.Sections.{start_of}
 use Rattle.intake_initialisers.specs.Lists.{Lists}
-use Rattle.intake_initialisers.specs.declared.Visited.{Visited}
+use Rattle.intake_initialisers.specs.Room.{blank}
+use Rattle.intake_initialisers.specs.declared.visited.Visited.{Visited}
 
 -- ---- where records start: the places of kinds, up to the count of named expressions and with it
 unfoldable pub finds : ℕ → List ℕ → List ℕ
@@ -32,16 +33,12 @@ reads s w = elim (eqb s EXPR) [ true ↦ Some w | false ↦ elim (eqb s OPT_EXPR
 unfoldable pub on : List Bool → ℕ → Bool
 on marks y = get_or marks y false
 
--- how many of the first e are not marked
-unfoldable pub blank : ℕ → List Bool → ℕ
-blank zero m = 0
-blank (suc e) [] = 0
-blank (suc e) (false ∷ m) = suc (blank e m)
-blank (suc e) (true ∷ m) = blank e m
-
--- nothing is visited of e expressions
-abbrev pub unvisited : ℕ → List ℕ → Visited
-unvisited e l₀ = record { marks = replicate 1024 false; list = l₀; top = 0; count = e }
+-- nothing is visited of e expressions, and the list is l
+pub record Unvisited (e : ℕ) (l : List ℕ) (v : Visited) : Type 0 where
+  pub marks_are : v.marks ≡ replicate 1024 false
+  pub list_is : v.list ≡ l
+  pub top_is : v.top ≡ 0
+  pub count_is : v.count ≡ e
 
 -- what visiting the numbers xs makes of v
 pub record Visits (xs : List ℕ) (v v₁ : Visited) : Type 0 where
@@ -54,13 +51,6 @@ pub record Visits (xs : List ℕ) (v v₁ : Visited) : Type 0 where
   pub new : (y : ℕ) → on v₁.marks y ≡ true → (on v.marks y ≡ true) ⊎ ((y < v.count) × Mem y xs × Mem y (take v₁.top v₁.list))
   pub lists : (y : ℕ) → Mem y (take v.top v.list) → Mem y (take v₁.top v₁.list)
   pub listed : (y : ℕ) → Mem y (take v₁.top v₁.list) → Mem y (take v.top v.list) ⊎ (on v₁.marks y ≡ true)
-
--- room on the list
-pub record Room (v : Visited) : Type 0 where
-  pub marks_long : length v.marks ≡ 1024
-  pub list_long : length v.list ≡ 1024
-  pub few : v.count ≤ 1024
-  pub room : v.top + blank v.count v.marks ≤ v.count
 
 -- the initialisers of n locals, each the last of five words
 unfoldable pub inits : ℕ → List ℕ → List ℕ
@@ -76,7 +66,7 @@ pub record Done (f : Function) (v : Visited) (y : ℕ) : Type 0 where
 -- what is marked is reached, and is on the list or done; the initialisers are marked
 pub record Work (f : Function) (v : Visited) : Type 0 where
   pub many : v.count ≡ length f.exprs
-  pub room : Room v
+  pub few : v.count ≤ 1024
   pub only : (y : ℕ) → on v.marks y ≡ true → (y < v.count) × Reached f y
   pub held : (y : ℕ) → Mem y (take v.top v.list) → on v.marks y ≡ true
   pub begun : (y : ℕ) → Mem y (roots f.locals) → y < v.count → on v.marks y ≡ true
@@ -86,6 +76,7 @@ pub record Work (f : Function) (v : Visited) : Type 0 where
 pub record Starting (f : Function) (e base : ℕ) (starts : List ℕ) : Type 0 where
   pub each : (x : ℕ) → x ≤ e → get_or starts x 0 ≡ start_of base f.exprs x
 
+-- what is visited so far, of a function whose expressions start at starts
 pub record Reaching (words tags starts : List ℕ) (v : Visited) : Type 0 where
   pub function : Function
   pub locals : ℕ

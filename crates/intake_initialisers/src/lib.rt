@@ -7,12 +7,16 @@ ghost use Rattle.std.proofs.Math.Seq.{slice};
 ghost use Rattle.model.specs.Operands.{ops_of};
 ghost use Rattle.model.specs.Between.{between, Long};
 ghost use Rattle.intake_initialisers.specs.Lists.{Listed, Initialised};
-ghost use Rattle.intake_initialisers.specs.Marks.{finds, Found, reads, inits, unvisited, Room, Visits, Reaching, Reaches};
+ghost use Rattle.intake_initialisers.specs.Marks.{finds, Found, reads, inits, Unvisited, Visits, Reaching, Reaches};
 
 use base_classes::{EXPR, EXPR_KIND, NAMED, OPT_EXPR};
 use base_kinds::constant;
 use base_views::Image;
 use base_words::{Tags, Words};
+
+mod visited;
+
+pub use visited::Visited;
 
 // Where each expression record starts, from `at` on, and where the last one ends, as numbers of 16 bits or more: a record starts with its kind, and the last is
 // followed by the number of named expressions.
@@ -51,21 +55,10 @@ fn operand(s: u8, w: u32) -> Option<u32>
     }
 }
 
-// What is visited of the expressions of a function, `count` of them: each has a mark, and the first `top` of `list` are those whose operands are still to be
-// visited. A stack in fixed memory.
-#[derive(Drop)]
-pub struct Visited {
-    pub marks: [bool; 1024],
-    pub list: [u32; 1024],
-    pub top: usize,
-    pub count: usize,
-}
-
 impl Visited {
     // Of `count` expressions none is visited. The list may hold anything: it is written before it is read.
     pub fn begin(&mut self, count: usize)
-        ensures begun { self.new ≡ unvisited count self.old.list }
-        ensures list_len { length self.new.list ≡ 1024 }
+        ensures { Unvisited count self.old.list self.new }
     {
         self.marks = [false; 1024];
         self.top = 0;
@@ -74,7 +67,7 @@ impl Visited {
 
     // Marks the expression x, and puts it on the list; a number outside the table is none.
     fn visit(&mut self, x: u32)
-        requires { Room self.old }
+        requires { self.old.count ≤ 1024 }
         ensures { Visits (x ∷ []) self.old self.new }
     {
         let place = x as usize;
@@ -91,7 +84,7 @@ impl Visited {
         requires long { Long image.words.now image.tags.now }
         requires at_le_end { at ≤ end }
         requires end_bound { end ≤ 16384 }
-        requires room { Room self.old }
+        requires few { self.old.count ≤ 1024 }
         ensures { Visits (ops_of (between image.entry.tags.now image.entry.words.now at end)) self.old self.new }
     {
         for j in at..end {
@@ -105,7 +98,7 @@ impl Visited {
     pub fn roots(&mut self, words: &Words, at: usize, locals: usize)
         requires words_len { length words.now ≡ 16384 }
         requires locals_bound { at + 5 * locals ≤ 16384 }
-        requires room { Room self.old }
+        requires few { self.old.count ≤ 1024 }
         ensures { Visits (inits locals (drop at words.now)) self.old self.new }
     {
         for j in 0..locals {

@@ -1,5 +1,5 @@
 -- The steps of laying out extents: one record, the records of a section, a section, the special types. What is left from here on is the whole.
-use mathlib.Core.Path.{◌≡◌, refl, sym, ap, ◌∙◌}
+use mathlib.Core.Path.{subst, ◌≡◌, refl, sym, ap, ◌∙◌}
 use mathlib.Core.Bool.{Bool, true, false, ◌&&◌}
 use mathlib.Core.List.{List, [], ◌∷◌, ◌++◌}
 use Prim.Native.Nat.{ℕ, zero, suc, ◌+◌, ◌-◌, ◌≤◌, ◌<◌}
@@ -21,7 +21,7 @@ use Rattle.intake_fields.specs.Rows.{SIZE, RAYS_ROW, PAIR_ROW, row, row_at}
 use Rattle.std.specs.Prelude.{Ok, Err}
 use Rattle.std.proofs.Common.{◌⊎◌, inl, inr}
 use Rattle.intake_fields.specs.Walks.{Walked, Final, next as next-final, refused as refused-final, stopped as stopped-final, seen, final, RowEnsures, filled, Fills}
-use Rattle.intake_layout.specs.Extents.{Held, Classes, done, refused, odd, stopped, shown, ending, Covers, after, classes, extent, records_left, table_classes, tabled, special_of, special}
+use Rattle.intake_layout.specs.Extents.{Held, Classes, done, refused, odd, stopped, shown, ending, Covers, after, noted, classes, extent, records_left, table_classes, tabled, special_of, special}
 use Rattle.intake_fields.specs.declared.Misread.{Misread}
 use Rattle.intake_fields.specs.declared.Misread.TheVariants.{Misfit, Strange}
 use Rattle.intake_fields.proofs.Reading.{Reads, reads, Reading, reads-pieces, reads_times, reads-join}
@@ -333,6 +333,19 @@ module _ (p : Reader) (words : List ℕ) (base stop n : ℕ) where
         ∙ chosen (eqb o (at - base) && (leb (at - base) e && leb e (stop - base))) tests_same
         ∙ ap {A = Bool} (λ c. both ◌++◌ (elim c [ true ↦ map_l classes (exact (p (take (base + e - at) ws))) | false ↦ bad ]) left) tests_same
 
+-- ---- what is remembered
+pub noted_err : (b : Bool) (r : Held) (e : Misread) → Err e ≡ noted b r → (r ≡ Err Misfit) × (e ≡ Misfit)
+unfolding noted
+noted_err b (Ok u) e g = cc
+noted_err b (Err Misfit) e g = (refl, cc)
+noted_err b (Err Strange) e g = cc
+
+pub noted_ok : (P : Bool → Type 0) (b : Bool) (r : Held) (b' : Bool) → Ok b' ≡ noted b r → (r ≡ Ok tt → P b) → (r ≡ Err Strange → P true) → P b'
+unfolding noted
+noted_ok P b (Ok u) b' g good other = let z : b ≡ b' = cc in subst P z (good refl)
+noted_ok P b (Err Misfit) b' g good other = cc
+noted_ok P b (Err Strange) b' g good other = let z : true ≡ b' = cc in subst P z (other refl)
+
 -- what the loop over records keeps
 pub record Recording (words tags₀ : List ℕ) (base stop n pc : ℕ) (tags : List ℕ) (at j : ℕ) (b : Bool) : Type 0 where
   pub some_left : j ≤ n
@@ -353,9 +366,9 @@ module _ (words tags₀ : List ℕ) (base stop n pc : ℕ) (room : base + n ≤ 
       whole : ending tags at (after b (both ◌++◌ (extent (pieces 32 (row_at pc)) start at end stop (slice at stop words)) (records_left (pieces 32 (row_at pc)) words base stop n (j + 1) end))) ≡ ending tags₀ (base + n) (records_left (pieces 32 (row_at pc)) words base stop n 0 (base + n))
       whole = ap (λ o. ending tags at (after b o)) (sym stepped) ∙ inv.same
 
-      pub records_bad : r ≡ Err Misfit → Covers (Err Misfit) tags₁ tags₀ (base + n) (records_left (pieces 32 (row_at pc)) words base stop n 0 (base + n))
+      pub records_bad : (e : Misread) → Err e ≡ noted b r → Covers (Err e) tags₁ tags₀ (base + n) (records_left (pieces 32 (row_at pc)) words base stop n 0 (base + n))
       unfolding shown stopped
-      records_bad e = record { same = then_bad tags at _ r tags₁ got b (records_left (pieces 32 (row_at pc)) words base stop n (j + 1) end) e ∙ whole }
+      records_bad e g = let q = noted_err b r e g in rw q.1 (record { same = then_bad tags at _ r tags₁ got b (records_left (pieces 32 (row_at pc)) words base stop n (j + 1) end) q.0 ∙ whole })
 
       not_bad : (o : Laid Classes) → (r ≡ Err Misfit → ⊥) → shown r tags₁ ≡ ending tags at o → o ≡ bad → ⊥
       unfolding shown stopped ending
@@ -369,7 +382,7 @@ module _ (words tags₀ : List ℕ) (base stop n pc : ℕ) (room : base + n ≤ 
       bounded : (r ≡ Err Misfit → ⊥) → Bounds (pieces 32 (row_at pc)) (reads-pieces 32 (row_at pc)) words start at end stop enough
       bounded n = bounds (pieces 32 (row_at pc)) (reads-pieces 32 (row_at pc)) words start at end stop enough (not_bad _ n got.same)
 
-      pub records_fits : r ≡ Ok tt → Recording words tags₀ base stop n pc tags₁ end (j + 1) b
+      records_fits : r ≡ Ok tt → Recording words tags₀ base stop n pc tags₁ end (j + 1) b
       records_fits e = let k = bounded (λ q. cc) in record {
         some_left = omega arith;
         low = omega (arith, inv.low, k.forth);
@@ -377,13 +390,16 @@ module _ (words tags₀ : List ℕ) (base stop n pc : ℕ) (room : base + n ≤ 
         same = then_fits tags at _ r tags₁ got b (records_left (pieces 32 (row_at pc)) words base stop n (j + 1) end) e end (extent-length (pieces 32 (row_at pc)) (reads-pieces 32 (row_at pc)) words start at end stop enough) ∙ whole;
       }
 
-      pub records_strange : r ≡ Err Strange → Recording words tags₀ base stop n pc tags₁ end (j + 1) true
+      records_strange : r ≡ Err Strange → Recording words tags₀ base stop n pc tags₁ end (j + 1) true
       records_strange e = let k = bounded (λ q. cc) in record {
         some_left = omega arith;
         low = omega (arith, inv.low, k.forth);
         high = k.within;
         same = then_strange tags at _ r tags₁ got b (records_left (pieces 32 (row_at pc)) words base stop n (j + 1) end) e end ∙ whole;
       }
+
+      pub records_next : (b' : Bool) → Ok b' ≡ noted b r → Recording words tags₀ base stop n pc tags₁ end (j + 1) b'
+      records_next b' g = noted_ok (Recording words tags₀ base stop n pc tags₁ end (j + 1)) b r b' g records_fits records_strange
 
     module _ (h : n ≤ j) where
       none_left : records_left (pieces 32 (row_at pc)) words base stop n j at ≡ map_l all_classes (elim (eqb (at - base) (stop - base)) [ true ↦ laid [] | false ↦ bad ])

@@ -17,7 +17,7 @@ use Rattle.model.specs.Tree.{flat_all, DEPTH}
 use Rattle.model.specs.Module.{table, rays_row, pair_row, places, flat_table, limits, count_at, offset_at, end_at, placed, section}
 use Rattle.intake_fields.specs.Parts.{pieces, table_rows}
 use Rattle.intake_fields.specs.Rows.{ROWS, RECORDS, numbers, SIZE, row, row_at}
-use Rattle.intake_layout.specs.Extents.{Held, Classes, done, odd, stopped, shown, ending, Covers, after, classes, table_classes, tabled, special_of, special, sections_from}
+use Rattle.intake_layout.specs.Extents.{Held, Classes, done, odd, stopped, shown, ending, Covers, after, noted, classes, table_classes, tabled, special_of, special, sections_from}
 use Rattle.std.specs.Prelude.{Ok, Err}
 use Rattle.intake_fields.specs.declared.Misread.{Misread}
 use Rattle.intake_fields.specs.declared.Misread.TheVariants.{Misfit, Strange}
@@ -26,7 +26,7 @@ use Rattle.theory_image.specs.Tables.{laid_of, table_took}
 use Rattle.theory_image.specs.Sections.{length-places}
 use Rattle.intake_fields.proofs.Reading.{Reads, reads, no_fit, no_code, reads-pieces, reads_times, reads-join}
 use Rattle.intake_layout.proofs.Header.{count_is, offset_is, end-last, end-next}
-use Rattle.intake_layout.proofs.Extents.{then_bad, then_strange, then_fits, after_bad}
+use Rattle.intake_layout.proofs.Extents.{noted_err, noted_ok, then_bad, then_strange, then_fits, after_bad}
 
 -- ---- sections in place
 pub record InPlace (ws : List ℕ) (k : ℕ) : Type 0 where
@@ -238,23 +238,26 @@ module _ (words tags₀ : List ℕ) (total : ℕ) (large : 20 ≤ total) (enough
               let m = length-slice (offset_at k (take total words)) (end_at k (take total words)) (take total words) (stands k (omega arith)).within in
               omega (arith, l, m, onward k h, (stands k (omega arith)).forth)
 
-          pub sections_bad : r ≡ Err Misfit → Covers (Err Misfit) tags₁ tags₀ 20 (sections_from table_rows 0 (take total words))
+          pub sections_bad : (e : Misread) → Err e ≡ noted b r → Covers (Err e) tags₁ tags₀ 20 (sections_from table_rows 0 (take total words))
           unfolding shown stopped
-          sections_bad e = record { same = then_bad tags (offset_at k (take total words)) here r tags₁ got-here b rest e ∙ whole }
+          sections_bad e g = let q = noted_err b r e g in rw q.1 (record { same = then_bad tags (offset_at k (take total words)) here r tags₁ got-here b rest q.0 ∙ whole })
 
-          pub sections_fits : r ≡ Ok tt → Sectioning words tags₀ total tags₁ (k + 1) b
+          sections_fits : r ≡ Ok tt → Sectioning words tags₀ total tags₁ (k + 1) b
           unfolding rest ws
           sections_fits e = record {
             some_left = omega arith;
             same = rw (add-one k) (then_fits tags (offset_at k (take total words)) here r tags₁ got-here b rest e (offset_at (suc k) (take total words)) fills ∙ whole);
           }
 
-          pub sections_strange : r ≡ Err Strange → Sectioning words tags₀ total tags₁ (k + 1) true
+          sections_strange : r ≡ Err Strange → Sectioning words tags₀ total tags₁ (k + 1) true
           unfolding rest ws
           sections_strange e = record {
             some_left = omega arith;
             same = rw (add-one k) (then_strange tags (offset_at k (take total words)) here r tags₁ got-here b rest e (offset_at (suc k) (take total words)) ∙ whole);
           }
+
+          pub sections_next : (b' : Bool) → Ok b' ≡ noted b r → Sectioning words tags₀ total tags₁ (k + 1) b'
+          sections_next b' g = noted_ok (Sectioning words tags₀ total tags₁ (k + 1)) b r b' g sections_fits sections_strange
 
   -- ---- the last section
   pub last_forth : (base : ℕ) → base ≡ get_or words 19 0 → base ≤ total

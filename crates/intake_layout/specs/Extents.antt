@@ -18,23 +18,28 @@ Classes = List ℕ
 abbrev pub Held : Type 0
 Held = Result (Unit {0}) Misread
 
+-- how laying out ends: the tags are done, or a misfit or a code that is none of the listed was found
 pub data End : Type 0 where
   done : List ℕ → End
   refused odd : End
 
+-- the end of an error
 unfoldable pub stopped : Misread → End
 stopped Misfit = refused
 stopped Strange = odd
 
+-- the end of what the code reports
 unfoldable pub shown : Held → List ℕ → End
 shown (Ok u) tags = done tags
 shown (Err e) tags = stopped e
 
+-- the end that it has to report: the tags from `at` on are these classes, or why not
 unfoldable pub ending : List ℕ → ℕ → Laid Classes → End
 ending tags at (laid cs) = done (sets tags at cs)
 ending tags at bad = refused
 ending tags at strange = odd
 
+-- the two are the same
 pub record Covers (r : Held) (tags₁ tags : List ℕ) (at : ℕ) (o : Laid Classes) : Type 0 where
   pub same : shown r tags₁ ≡ ending tags at o
 
@@ -44,6 +49,12 @@ after false o = o
 after true (laid cs) = strange
 after true bad = bad
 after true strange = strange
+
+-- whether one was found before or in a part, unless the part is refused
+unfoldable pub noted : Bool → Held → Result Bool Misread
+noted b (Ok u) = Ok b
+noted b (Err Strange) = Ok true
+noted b (Err Misfit) = Err Misfit
 
 -- ---- one record
 abbrev pub classes : Cells → Classes
@@ -62,6 +73,7 @@ records_left p words base stop n j at = map_l (λ rs. classes (flat_all rs)) (re
 abbrev pub table_classes : ℕ → List Cells → Classes
 table_classes n rs = replicate n PLACE ++ classes (flat_all rs)
 
+-- a section of n records of the row r, after their offsets
 unfoldable pub tabled : Row → ℕ → List ℕ → Laid Classes
 tabled r n ws = map_l (table_classes n) (table (pieces DEPTH r) n ws)
 
@@ -69,6 +81,7 @@ tabled r n ws = map_l (table_classes n) (table (pieces DEPTH r) n ws)
 unfoldable pub special_of : ℕ → Reader
 special_of n ws = join (pieces DEPTH rays_row ws) (times n (pieces DEPTH pair_row))
 
+-- all of the section, and nothing after it
 unfoldable pub special : ℕ → List ℕ → Laid Classes
 special n ws = map_l classes (exact (special_of n ws))
 

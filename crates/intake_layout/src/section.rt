@@ -1,18 +1,13 @@
 // Laying out the header and the sections: each record has its extent, and each section its place. A misfit ends it at once; a code that is none of the listed
 // is remembered, since a misfit after it is what is told. Words and tags are two parameters, as in intake_fields, which says why.
-//
-// The loop that remembers stands twice, in `records` and in `sections`. One for both would take a turn as a closure that writes `tags`, with what `record` and
-// `section` require said again, and would hand out `odd`, since each has one more test after its loop, whose misfit is told first: no plainer.
 ghost use Rattle.std.specs.Prelude.{◌≡◌, true, ◌+◌, ◌-◌, ◌*◌, ◌^◌, ◌≤◌, ◌<◌, length, take, get_or};
 ghost use Rattle.std.proofs.Math.Seq.{slice};
 ghost use Rattle.model.specs.Module.{limits, placed as placed_of, end_at, next};
 ghost use Rattle.intake_fields.specs.Parts.{pieces, table_rows};
 ghost use Rattle.intake_fields.specs.Rows.{ROWS, row_at};
-ghost use Rattle.intake_layout.specs.Extents.{Covers, extent, tabled, special as special_of, sections_from, records_left};
+ghost use Rattle.intake_layout.specs.Extents.{Covers, noted, extent, tabled, special as special_of, sections_from, records_left};
 
-use base_views::{
-    COUNTS, ENTRIES, FUNCTIONS, HEADER, MOST_ENTRIES, MOST_FUNCTIONS, OFFSETS, SPECIAL,
-};
+use base_views::{COUNTS, HEADER, OFFSETS, SPECIAL, limit};
 use base_words::{Tags, Words};
 use intake_fields::table::{PAIR_ROW, RAYS_ROW, RECORDS, entry};
 use intake_fields::{Misread, fill, row, times};
@@ -24,6 +19,18 @@ const NEXT: usize = OFFSETS + 2;
 const SPECIAL_COUNT: usize = COUNTS + 2 * SPECIAL;
 
 const SPECIAL_OFFSET: usize = OFFSETS + 2 * SPECIAL;
+
+// Whether a code was none of the listed, in a part or, by `odd`, before it: that ends nothing, but a misfit does.
+#[tactic(auto, unfolding(crate::specs::Extents::noted))]
+fn noted(odd: bool, part: Result<(), Misread>) -> Result<bool, Misread>
+    ensures { result ≡ noted odd part }
+{
+    match part {
+        Ok(()) => Ok(odd),
+        Err(Misread::Strange) => Ok(true),
+        Err(Misread::Misfit) => Err(Misread::Misfit),
+    }
+}
 
 // Where record j of n ends: where the next one starts, or where the section ends.
 fn end_of(words: &Words, base: usize, stop: usize, n: usize, j: usize) -> usize
@@ -87,11 +94,7 @@ fn records(
     for j in 0..n {
         let start = base + words[base + j] as usize;
         let end = end_of(words, base, stop, n, j);
-        match record(words, tags, start, at, end, stop, pc) {
-            Ok(()) => {}
-            Err(Misread::Strange) => odd = true,
-            Err(Misread::Misfit) => return Err(Misread::Misfit),
-        }
+        odd = noted(odd, record(words, tags, start, at, end, stop, pc))?;
         at = end;
     }
     if at != stop {
@@ -141,18 +144,6 @@ fn special(
     }
 }
 
-// How many records table k may have.
-fn limit(k: usize) -> u32
-    requires { k < 9 }
-    ensures { result ≡ get_or limits k 0 }
-{
-    match k {
-        FUNCTIONS => MOST_FUNCTIONS as u32,
-        ENTRIES => MOST_ENTRIES as u32,
-        _ => 512,
-    }
-}
-
 // Where section k ends.
 fn end_at(words: &Words, total: usize, k: usize) -> usize
     requires k_bound { k < 9 }
@@ -180,7 +171,7 @@ pub fn sections_fit(words: &Words, total: usize) -> bool
         let start = words[OFFSETS + 2 * j] as usize;
         let end = end_at(words, total, j);
         let count = words[COUNTS + 2 * j];
-        let most = limit(j);
+        let most = limit(j) as u32;
         if start != at || most < count || end < at || total < end {
             return false;
         }
@@ -202,11 +193,8 @@ pub fn sections(words: &Words, tags: &mut Tags, total: usize) -> Result<(), Misr
         let base = words[OFFSETS + 2 * j] as usize;
         let stop = words[NEXT + 2 * j] as usize;
         let pc = usize::from(entry(RECORDS + j));
-        match section(words, tags, base, stop, words[COUNTS + 2 * j], pc) {
-            Ok(()) => {}
-            Err(Misread::Strange) => odd = true,
-            Err(Misread::Misfit) => return Err(Misread::Misfit),
-        }
+        let count = words[COUNTS + 2 * j];
+        odd = noted(odd, section(words, tags, base, stop, count, pc))?;
     }
     special(
         words,

@@ -22,14 +22,14 @@ use Rattle.theory_image.specs.FunctionViews.{Held, Part, part_end, part_right, p
 use Rattle.theory_image.specs.Members.{each_at}
 use Rattle.intake_initialisers.specs.Lists.{Lists, Listed}
 use Rattle.intake_numbers.specs.Passes.{Framed}
-use Rattle.intake_initialisers.specs.Marks.{finds, on, inits, unvisited, Visits, Work, Starting, Reaching, Reaches}
-use Rattle.intake_initialisers.specs.declared.Visited.{Visited}
+use Rattle.intake_initialisers.specs.Marks.{finds, on, inits, Unvisited, Visits, Work, Starting, Reaching, Reaches}
+use Rattle.intake_initialisers.specs.declared.visited.Visited.{Visited}
 use Rattle.intake_initialisers.proofs.Reaching.{init_locals, init_exprs, init-after, init-end, all, starting, begun, many_is, many_few, end_in}
 use Rattle.intake_numbers.proofs.Framing.{lists_are}
 use Rattle.intake_statements.specs.Fine.{fine_b}
 use Rattle.intake_statements.specs.Tape.{cells_from, cells_in, block_of, HoldsB, Ends, record_of, table_from, exprs_of, Placed, Exprs, marks}
 use Rattle.intake_blocks.specs.Found.{BlockHere}
-use Rattle.intake_scope.specs.Functions.{Lent, Known, Tested, Stated, Scoped}
+use Rattle.intake_scope.specs.Functions.{Known, Tested, Stated, Scoped}
 use Rattle.intake_statements.proofs.Restated.{restated}
 use Rattle.intake_statements.proofs.Scopes.{absurd_bool, expr_in}
 use Rattle.intake_blocks.proofs.Trees.{Runs, between_runs, block_is, block_held, ends_in}
@@ -82,7 +82,7 @@ module _ {ws ts : List ℕ} {locals exprs end e : ℕ} {st : List ℕ} (f : Func
     within = λ x h. omega (arith, (piece x h).within, ls.small);
   }
 
-  exprs_here : Exprs ws ts st e
+  pub exprs_here : Exprs ws ts st e
   unfolding counted expression_row
   exprs_here = record { placed = placed; lays = λ x h. rw (piece_is x h) (each_at ls.own.well.exprs_ok.each x [] (omega (arith, many))) }
 
@@ -164,19 +164,22 @@ module _ (words tags : List ℕ) (locals exprs end : ℕ) (pre : Known words tag
     pub known_few : e ≤ 1024
     known_few = many_few pre.lists e e-is
 
-    module _ (st₀ l₀ u₀ : List ℕ) (lent : Lent st₀ l₀ u₀) (st : List ℕ) (st_is : st ≡ sets st₀ 0 (finds (exprs + 1) (slice (exprs + 1) end tags))) where
+    module _ (st₀ : List ℕ) (starts_long : length st₀ ≡ 1025) (st : List ℕ) (st_is : st ≡ sets st₀ 0 (finds (exprs + 1) (slice (exprs + 1) end tags))) where
       starts : (f : Function) → Lists words tags locals exprs end f → Starting f e (exprs + 1) st
-      starts f ls = starting ls e e-is st₀ st lent.starts_long st_is
+      starts f ls = starting ls e e-is st₀ st starts_long st_is
+
+      pub known-laid : Exprs words tags st e
+      known-laid = exprs_here pre.function pre.lists e-is (starts pre.function pre.lists)
 
       pub known-named : (named : ℕ) → (named ≡ get_or st e 0) → named < 16384
       known-named named is = named_in pre.function pre.lists e-is (starts pre.function pre.lists) named is
 
-      module _ (v : Visited) (a : Visits (inits count (drop (locals + 1) words)) (unvisited e l₀) v) where
+      module _ {l₀ : List ℕ} (v₀ : Visited) (n : Unvisited e l₀ v₀) (v : Visited) (a : Visits (inits count (drop (locals + 1) words)) v₀ v) where
         starts_of : (f : Function) → Lists words tags locals exprs end f → Starting f v.count (exprs + 1) st
-        starts_of f ls = subst (λ n. Starting f n (exprs + 1) st) (sym a.count_same) (starts f ls)
+        starts_of f ls = subst (λ k. Starting f k (exprs + 1) st) (sym (a.count_same ∙ n.count_is)) (starts f ls)
 
         work : (f : Function) → Lists words tags locals exprs end f → Work f v
-        work f ls = begun ls e e-is count count_is l₀ lent.list_long v a
+        work f ls = begun ls e e-is count count_is v₀ n v a
 
         pub known_reach : Reaching words tags st v
         known_reach = record {

@@ -11,12 +11,6 @@ use Rattle.intake_numbers.specs.Passes.{Frame}
 use Rattle.intake_initialisers.specs.Lists.{Lists}
 use Rattle.intake_statements.specs.Tape.{Ends}
 
--- the arrays that a pass works in: where expressions start, what is still to be visited, and how long each lasts
-pub record Lent (starts list until : List ℕ) : Type 0 where
-  pub starts_long : length starts ≡ 1025
-  pub list_long : length list ≡ 1024
-  pub until_long : length until ≡ 1024
-
 -- its lists of locals and expressions have their numbers at the words `locals` and `exprs`; a clause, since it has the function as a field
 pub record Known (words tags : List ℕ) (locals exprs end : ℕ) : Type 0 where
   pub function : Function
@@ -24,6 +18,7 @@ pub record Known (words tags : List ℕ) (locals exprs end : ℕ) : Type 0 where
   pub inits : initialised function ≡ true
   pub ends : Ends words tags (length function.exprs) exprs end
 
+-- the answer is the model's, of a function whose initialisers are allowed
 pub record Tested (r : Bool) (words tags : List ℕ) (locals exprs end : ℕ) : Type 0 where
   pub same : (f : Function) → Lists words tags locals exprs end f → initialised f ≡ true → r ≡ scoped f
 
@@ -35,6 +30,7 @@ pub record Stated (words tags : List ℕ) (at from end : ℕ) : Type 0 where
   pub inits : initialised function ≡ true
   pub ends : Ends words tags (length function.exprs) from end
 
+-- the same of its record
 pub record Scoped (r : Bool) (words tags : List ℕ) (at from end : ℕ) : Type 0 where
   pub same : (f : Function) (cs : Cells) → Frame words tags at from end f cs → initialised f ≡ true → r ≡ scoped f
 
@@ -46,6 +42,7 @@ pub record InRange (words tags : List ℕ) (n : ℕ) : Type 0 where
 abbrev pub functions_scoped : Module → Bool
 functions_scoped m = all_scoped m.functions
 
+-- the same of every entry point
 abbrev pub entry_points_scoped : Module → Bool
 entry_points_scoped m = entries_scoped m.entries
 
@@ -54,6 +51,7 @@ pub data Section : ℕ → ℕ → Type 0 where
   of_functions : Section 6 0
   of_entries : Section 7 7
 
+-- the test of a section
 abbrev pub scoped_of : {k head : ℕ} → Section k head → Module → Bool
 scoped_of of_functions = functions_scoped
 scoped_of of_entries = entry_points_scoped

@@ -123,9 +123,13 @@ module _ (ws ts : List ℕ) (f : ℕ → Bool) where
   unfolding cells_in
   reads_are from to = reads_from (to - from) from
 
--- ---- the loop that looks for a result
-pub record Looking (ws ts : List ℕ) (from to i : ℕ) : Type 0 where
-  pub same : result_of (cells_from (to - i) ws ts i) ≡ result_of (cells_in ws ts from to)
+-- ---- the search for a result
+-- the word i says of a result, or says nothing of one
+abbrev pub Says : List ℕ → ℕ → Type 0
+Says ts i = (get_or ts i 0 ≡ 99 → ⊥) → get_or ts i 0 ≡ 100
+
+abbrev pub Silent : List ℕ → ℕ → Type 0
+Silent ts i = (get_or ts i 0 ≡ 99 → ⊥) × (get_or ts i 0 ≡ 100 → ⊥)
 
 result_here : (s w : ℕ) (cs : Cells) → s ≡ 99 → result_of ((s, w) ∷ cs) ≡ some w
 unfolding result_of
@@ -151,25 +155,32 @@ unfolding result_of
 result_none = refl
 
 module _ (ws ts : List ℕ) (from to : ℕ) where
-  pub look-begin : Looking ws ts from to from
+  -- after n words that say nothing
+  looked : (n : ℕ) → from + n ≤ to → ((k : ℕ) → from ≤ k → k < from + n → Silent ts k) → result_of (cells_in ws ts from to) ≡ result_of (cells_from (to - (from + n)) ws ts (from + n))
   unfolding cells_in
-  look-begin = record { same = refl }
+  looked zero h silent = let z : from + 0 ≡ from = omega arith in rw z refl
+  looked (suc n) h silent =
+      let z : from + suc n ≡ from + n + 1 = omega arith in
+      let o = silent (from + n) (omega arith) (omega arith) in
+      rw z (looked n (omega arith) (λ k l m. silent k l (omega arith)) ∙ ap result_of (cells_next ws ts (from + n) to (omega arith)) ∙ result_later (get_or ts (from + n) 0) (get_or ws (from + n) 0) _ o.0 o.1)
 
-  module _ (i : ℕ) (inv : Looking ws ts from to i) where
-    here : i < to → result_of (cells_in ws ts from to) ≡ result_of ((get_or ts i 0, get_or ws i 0) ∷ cells_from (to - (i + 1)) ws ts (i + 1))
-    here h = sym inv.same ∙ ap result_of (cells_next ws ts i to h)
+  pub looked_none : ((k : ℕ) → from ≤ k → k < to → Silent ts k) → None ≡ option_of (result_of (cells_in ws ts from to))
+  unfolding cells_in cells_from option_of
+  looked_none silent = go (to - from) refl
+    where
+      go : (n : ℕ) → to - from ≡ n → None ≡ option_of (result_of (cells_from (to - from) ws ts from))
+      go zero e = rw e (sym (ap option_of result_none))
+      go (suc n) e =
+          let z : to - (from + suc n) ≡ 0 = omega arith in
+          sym (ap option_of (looked (suc n) (omega arith) (λ k l m. silent k l (omega arith)) ∙ ap (λ i. result_of (cells_from i ws ts (from + suc n))) z ∙ result_none))
 
-    module _ (h : i < to) where
-      pub look_result : get_or ts i 0 ≡ 99 → Some (get_or ws i 0) ≡ option_of (result_of (cells_in ws ts from to))
-      unfolding option_of
-      look_result e = sym (ap option_of (here h ∙ result_here (get_or ts i 0) (get_or ws i 0) _ e))
+  module _ (j : ℕ) (first : (from ≤ j) × (j < to) × Says ts j × ((k : ℕ) → from ≤ k → k < j → Silent ts k)) where
+    found : result_of (cells_in ws ts from to) ≡ result_of ((get_or ts j 0, get_or ws j 0) ∷ cells_from (to - (j + 1)) ws ts (j + 1))
+    found = let z : from + (j - from) ≡ j = omega (arith, first.0) in rw z at (looked (j - from) (omega (arith, first.1)) (λ k l m. first.3 k l (omega (arith, first.0)))) ∙ ap result_of (cells_next ws ts j to first.1)
 
-      pub look-optional : get_or ts i 0 ≡ 100 → (o : code.Option ℕ) → SomeIff o (1 ≤ get_or ws i 0) (get_or ws i 0 - 1) → o ≡ option_of (result_of (cells_in ws ts from to))
-      look-optional e o is = one_less (get_or ws i 0) o is ∙ sym (ap option_of (here h ∙ result_optional (get_or ts i 0) (get_or ws i 0) _ e))
-
-    pub look-next : i < to → (get_or ts i 0 ≡ 99 → ⊥) → (get_or ts i 0 ≡ 100 → ⊥) → Looking ws ts from to (i + 1)
-    look-next h n m = record { same = sym (here h ∙ result_later (get_or ts i 0) (get_or ws i 0) _ n m) }
-
-    pub look_done : to ≤ i → None ≡ option_of (result_of (cells_in ws ts from to))
+    pub looked_result : get_or ts j 0 ≡ 99 → Some (get_or ws j 0) ≡ option_of (result_of (cells_in ws ts from to))
     unfolding option_of
-    look_done h = sym (ap option_of (sym inv.same ∙ ap result_of (cells_none ws ts i to h) ∙ result_none))
+    looked_result e = sym (ap option_of (found ∙ result_here (get_or ts j 0) (get_or ws j 0) _ e))
+
+    pub looked_optional : (get_or ts j 0 ≡ 99 → ⊥) → (o : code.Option ℕ) → SomeIff o (1 ≤ get_or ws j 0) (get_or ws j 0 - 1) → o ≡ option_of (result_of (cells_in ws ts from to))
+    looked_optional n o is = one_less (get_or ws j 0) o is ∙ sym (ap option_of (found ∙ result_optional (get_or ts j 0) (get_or ws j 0) _ (first.2 n)))

@@ -8,6 +8,7 @@ use Rattle.model.specs.Scope.{in_range, live, has, add_e, add_opt, evals_opt, ca
 use Rattle.intake_statements.specs.Fine.{fresh, one_e, next_e, fine_e}
 use Rattle.intake_statements.specs.Tape.{cells_in, exprs_of, marks}
 
+-- of count expressions those in scope, those evaluated (δ), and how long each lasts (u), at the word q
 pub record Scope (count q k : ℕ) (ρ δ u : List ℕ) : Type 0 where
   pub long : length u ≡ 1024
   pub later : 0 < q
@@ -33,6 +34,7 @@ pub record Tells (count q k : ℕ) (u₀ u : List ℕ) (r ok : Bool) (ρ δ : Li
 unfoldable pub visible_at : List ℕ → List ℕ → List ℕ → ℕ → ℕ → ℕ → Bool
 visible_at ws st u count at e = elim (ltb e count) [ true ↦ elim (ltb at (get_or u e 0)) [ true ↦ true | false ↦ standing_kind (get_or ws (get_or st e 0) 0) ] | false ↦ false ]
 
+-- are all of the list seen?
 unfoldable pub all_seen : List ℕ → (ℕ → Bool) → Bool
 all_seen [] seen = true
 all_seen (e ∷ es) seen = seen e && all_seen es seen
@@ -51,9 +53,11 @@ fits_result xs k f o = elim (eqb k 15) [ true ↦ call_result xs f o | false ↦
 pub record FoundE (ws ts st : List ℕ) (ini : List Bool) (count at keep e : ℕ) (u₀ u : List ℕ) (r : Bool) : Type 0 where
   pub found : (ρ δ : List ℕ) → Scope count at keep ρ δ u₀ → Tells count at keep u₀ u r (one_e (exprs_of ws ts st count) (marks ws ts st count ini) e ρ δ) (next_e (exprs_of ws ts st count) (marks ws ts st count ini) e ρ) (e ∷ δ)
 
+-- the expressions from a on, before b
 abbrev pub range_of : ℕ → ℕ → List ℕ
 range_of a b = in_range (record { from = a; to = b })
 
+-- an Emit, of the expressions from a on, before b
 pub record FoundR (ws ts st : List ℕ) (ini : List Bool) (count at keep a b : ℕ) (u₀ u : List ℕ) (r : Bool) : Type 0 where
   pub found : (ρ δ : List ℕ) → Scope count at keep ρ δ u₀
       → Tells count at keep u₀ u r (fine_e (exprs_of ws ts st count) (marks ws ts st count ini) (range_of a b) ρ δ) (add_e (live (range_of a b) (marks ws ts st count ini)) ρ) (add_e (range_of a b) δ)
@@ -62,13 +66,16 @@ pub record FoundR (ws ts st : List ℕ) (ini : List Bool) (count at keep a b : �
 abbrev pub result_in : List ℕ → List ℕ → ℕ → ℕ → Option ℕ
 result_in ws ts at stop = result_of (cells_in ws ts (at + 4) stop)
 
+-- whether it fits, and is evaluated for the first time
 abbrev pub result_ok : List ℕ → List ℕ → List ℕ → ℕ → ℕ → ℕ → List ℕ → Bool
 result_ok ws ts st count at stop δ = fits_result (exprs_of ws ts st count) (get_or ws (at + 1) 0) (get_or ws (at + 4) 0) (result_in ws ts at stop) && fresh (evals_opt (result_in ws ts at stop)) δ
 
+-- what is found of the result
 pub record FoundO (ws ts st : List ℕ) (count at stop keep : ℕ) (u₀ u : List ℕ) (r : Bool) : Type 0 where
   pub found : (ρ δ : List ℕ) → Scope count at keep ρ δ u₀
       → Tells count at keep u₀ u r (result_ok ws ts st count at stop δ) (add_opt (result_in ws ts at stop) ρ) (add_e (evals_opt (result_in ws ts at stop)) δ)
 
+-- what is found of the whole: its reads, and its result
 pub record FoundL (ws ts st : List ℕ) (count at stop keep : ℕ) (u₀ u : List ℕ) (r : Bool) : Type 0 where
   pub found : (ρ δ : List ℕ) → Scope count at keep ρ δ u₀
       → Tells count at keep u₀ u r (all_vis (standing (exprs_of ws ts st count)) ρ (ops_of (cells_in ws ts (at + 4) stop)) && result_ok ws ts st count at stop δ) (add_opt (result_in ws ts at stop) ρ) (add_e (evals_opt (result_in ws ts at stop)) δ)

@@ -26,6 +26,7 @@ got d unknown = d
 unfoldable pub block_of : List ℕ → List ℕ → ℕ → ℕ → Block Range
 block_of ws ts at fin = got end (block_at DEPTH (map word (cells_in ws ts at fin)))
 
+-- the same of a statement
 unfoldable pub stmt_of : List ℕ → List ℕ → ℕ → ℕ → Stmt Range
 stmt_of ws ts at stop = got (stmt 0 0 kill) (statement (block_at DEPTH) (map word (cells_in ws ts at stop)))
 
@@ -36,6 +37,7 @@ pub record HoldsB (ws ts : List ℕ) (at fin : ℕ) (b : Block Range) : Type 0 w
   pub within : fin ≤ 16384
   pub ok : OkB DEPTH b
 
+-- the same of a statement
 pub record HoldsS (ws ts : List ℕ) (at stop : ℕ) (s : Stmt Range) : Type 0 where
   pub cells : cells_in ws ts at stop ≡ flat_s s
   pub long : at + length (flat_s s) ≡ stop
@@ -51,18 +53,22 @@ pub data Steps (ws : List ℕ) : ℕ → ℕ → Type 0 where
   steps-none : {i : ℕ} → Steps ws 0 i
   steps_next : {n i : ℕ} → i < 16384 → i + get_or ws i 0 ≤ 16384 → Steps ws n (i + get_or ws i 0) → Steps ws (suc n) i
 
+-- the word after n statements from the word i on
 unfoldable pub stepped : ℕ → List ℕ → ℕ → ℕ
 stepped zero ws i = i
 stepped (suc n) ws i = stepped n ws (i + get_or ws i 0)
 
 -- ---- the expressions of a function, which start at the words st
+-- the cells of expression e
 unfoldable pub record_of : List ℕ → List ℕ → List ℕ → ℕ → Cells
 record_of ws ts st e = cells_in ws ts (get_or st e 0) (get_or st (suc e) 0)
 
+-- the cells of n of them, from expression e on
 unfoldable pub table_from : ℕ → List ℕ → List ℕ → List ℕ → ℕ → List Cells
 table_from zero ws ts st e = []
 table_from (suc n) ws ts st e = record_of ws ts st e ∷ table_from n ws ts st (suc e)
 
+-- the cells of all of them
 abbrev pub exprs_of : List ℕ → List ℕ → List ℕ → ℕ → List Cells
 exprs_of ws ts st count = table_from count ws ts st 0
 
@@ -72,6 +78,7 @@ pub record Placed (st : List ℕ) (count : ℕ) : Type 0 where
   pub rising : (e : ℕ) → e < count → get_or st e 0 < get_or st (suc e) 0
   pub within : (e : ℕ) → e < count → get_or st (suc e) 0 ≤ 16384
 
+-- each lies so, and is laid out by the row of an expression
 pub record Exprs (ws ts st : List ℕ) (count : ℕ) : Type 0 where
   pub placed : Placed st count
   pub lays : (e : ℕ) → e < count → Lays expression_row (record_of ws ts st e)

@@ -20,19 +20,19 @@ use base_kinds::{
 use base_views::Image;
 
 // The expressions of a function whose body is read: where each of them starts, and after the last one where they end; which are an initialiser's; and how many
-// they are.
+// they are. That each is laid out by its row is a clause, `Exprs`: `read`, which needs their places alone, would ask it of its callers by the type.
 #[derive(Clone, Copy)]
 pub struct Expressions<'a> {
     pub image: Image<'a>,
     pub starts: &'a [u32; 1025],
     pub initial: &'a [bool; 1024],
     pub count: usize,
+    pub ghost placed: { Placed starts.now count },
 }
 
 // The kind of expression e.
 fn kind(expressions: Expressions, e: usize) -> u32
-    requires e_bound { e < 1025 }
-    requires e_bound_2 { get_or expressions.starts.now e 0 < 16384 }
+    requires { e < expressions.count }
     ensures { result ≡ get_or expressions.entry.image.words.now (get_or expressions.entry.starts.now e 0) 0 }
 {
     expressions.image.words[expressions.starts[e] as usize]
@@ -40,7 +40,6 @@ fn kind(expressions: Expressions, e: usize) -> u32
 
 // Is expression e in scope at the word `at`?
 fn visible(expressions: Expressions, until: &[usize; 1024], at: usize, e: usize) -> bool
-    requires { Placed expressions.starts.now expressions.count }
     ensures { result ≡ visible_at expressions.entry.image.words.now expressions.entry.starts.now until.now expressions.entry.count at e }
 {
     e < expressions.count && (at < until[e] || stands(kind(expressions, e)))
@@ -48,8 +47,7 @@ fn visible(expressions: Expressions, until: &[usize; 1024], at: usize, e: usize)
 
 // Does the word j read only what is in scope at the word `at`?
 pub fn read(expressions: Expressions, until: &[usize; 1024], at: usize, j: usize) -> bool
-    requires placed { Placed expressions.starts.now expressions.count }
-    requires j_bound { j < 16384 }
+    requires { j < 16384 }
     ensures { result ≡ all_seen (operand (get_or expressions.entry.image.tags.now j 0) (get_or expressions.entry.image.words.now j 0) []) (visible_at expressions.entry.image.words.now expressions.entry.starts.now until.now expressions.entry.count at) }
 {
     let w = expressions.image.words[j] as usize;
@@ -62,8 +60,7 @@ pub fn read(expressions: Expressions, until: &[usize; 1024], at: usize, j: usize
 
 // The same of the words from `from` to `to`.
 fn reads(expressions: Expressions, until: &[usize; 1024], at: usize, from: usize, to: usize) -> bool
-    requires placed { Placed expressions.starts.now expressions.count }
-    requires to_bound { to ≤ 16384 }
+    requires { to ≤ 16384 }
     ensures { result ≡ all_seen (ops_of (cells_in expressions.entry.image.words.now expressions.entry.image.tags.now from to)) (visible_at expressions.entry.image.words.now expressions.entry.starts.now until.now expressions.entry.count at) }
 {
     (from..to).all(|j| read(expressions, until, at, j))
@@ -116,15 +113,11 @@ fn result_of(image: Image, from: usize, to: usize) -> Option<u32>
     requires { to ≤ 16384 }
     ensures { result ≡ option_of (result_of (cells_in image.entry.words.now image.entry.tags.now from to)) }
 {
-    // no chain: the tag that ends the loop says which answer it is, and after a `find` it would have to be asked again
-    for j in from..to {
-        match image.tags[j] {
-            RESULT => return Some(image.words[j]),
-            OPT_RESULT => return image.words[j].checked_sub(1),
-            _ => {}
-        }
+    let j = (from..to).find(|j| image.tags[*j] == RESULT || image.tags[*j] == OPT_RESULT)?;
+    match image.tags[j] {
+        RESULT => Some(image.words[j]),
+        _ => image.words[j].checked_sub(1),
     }
-    None
 }
 
 // Is expression e a result that the statement at the word `at` may have?

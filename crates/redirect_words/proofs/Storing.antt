@@ -69,11 +69,11 @@ module _ (image words tags : List ℕ) (n o p : ℕ) (omit : List ℕ) (h : Tape
       ap (take n) (t.words_are m x ∙ ap (λ w. sets w 0 (write (left m))) (sym (take-append-drop n words)) ∙ sets_middle [] (write (left m)) (take n words) (drop n words) l)
       ∙ take_at (write (left m)) (drop n words) n (left_long x)
 
-  pub store_asks : (n ≤ length words₁) × (4 * n ≤ length image)
-  store_asks =
-      let k = h.taped in
-      let l : length words₁ ≡ 16384 = ap length (t.words_are h.holds k) ∙ length-sets words 0 (write (left h.holds)) ∙ k.words_long in
-      (omega (arith, k.small), omega (arith, image_long))
+  words_long : length words₁ ≡ 16384
+  words_long = let k = h.taped in ap length (t.words_are h.holds k) ∙ length-sets words 0 (write (left h.holds)) ∙ k.words_long
+
+  pub store_asks : 4 * length (take n words₁) ≤ length image
+  store_asks = let k = h.taped in omega (arith, length-take-le n words₁ (omega (arith, k.small, words_long)), image_long)
 
   pub stays_stored : (e : Refusal) → r ≡ Err e → Stores r image image words tags n o p omit
   unfolding shown

@@ -170,6 +170,6 @@ pub fn redirect_loaded(
     ensures { Stores result image.new image.old words.old tags.now n request.entry.original request.entry.replacement request.entry.omit.now }
 {
     let both = redirect_words(words, tags, n, request)?;
-    store(words, n, image);
+    store(&words[..n], image);
     Ok(both)
 }

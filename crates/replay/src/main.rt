@@ -3,6 +3,7 @@
 #![tactic(auto)]
 
 use std::io::{self, Read};
+use wuldgisp::wuldgisp_intake;
 
 // What precedes an image: the expected answer, and the image's length; or none at the end of the input.
 fn head<R: Read>(from: &mut R) -> io::Result<Option<(u32, usize)>> {
@@ -15,18 +16,10 @@ fn head<R: Read>(from: &mut R) -> io::Result<Option<(u32, usize)>> {
     Ok(Some((want, n)))
 }
 
-// The number by which a vector holds what intake answers.
-fn number(image: &[u8]) -> u32 {
-    match intake::intake(image) {
-        Ok(_) => 0,
-        Err(refusal) => refusal.number(),
-    }
-}
-
 // Reads an image that is as long as the slice, and compares intake's answer. A read that fails is a vector that is answered otherwise; the next read tells it.
 fn one<R: Read>(from: &mut R, bytes: &mut [u8], want: u32) -> bool {
     match program_streams::read(from, bytes) {
-        Ok(n) => n == bytes.len() && number(bytes) == want,
+        Ok(n) => n == bytes.len() && wuldgisp_intake(bytes) == want,
         Err(_) => false,
     }
 }

@@ -19,13 +19,14 @@ ghost use Rattle.session_functions.specs.Brought.{BringsTo};
 
 use base_refusals::Refusal;
 use base_views::{FUNCTIONS, count};
+use derive_imports::Reference;
 use derive_lookup::known;
 use derive_rings::{entries_ring, follow_rings, import_rings};
 use derive_snapshot::{Snapshot, restore};
 use derive_state::{DerivedMut, Full, ShaderSource, Sizes, Special, StackRows, number_of};
 use function_entry::enter_all;
 use function_localize::append;
-use session_operations::{Session, renew};
+use session_operations::{Session, renew, source_with};
 
 // Empties the stacks of functions under construction.
 fn empty_stacks(stacks: &mut StackRows)
@@ -65,12 +66,11 @@ pub fn import_function(session: &mut Session, f: u32) -> Result<u32, Refusal>
     requires { Valid session.old }
     ensures { Operates {A = ℕ} (import_function f) session.old (refusal_of result) (value_in result) session.new }
 {
-    let set = session.source.ok_or(Refusal::NoSource)?;
-    let room = count(session.words, FUNCTIONS);
-    if room <= f as usize {
-        return Err(Refusal::NumberGiven);
-    }
-    let source = set.over(session.words, session.tags);
+    let r = Reference {
+        table: FUNCTIONS,
+        number: f,
+    };
+    let source = source_with(session.source, session.words, session.tags, r)?;
     if import_rings(
         source.image,
         &session.derived.view(session.sizes),
@@ -78,6 +78,7 @@ pub fn import_function(session: &mut Session, f: u32) -> Result<u32, Refusal>
     ) {
         return Err(Refusal::UnknownRing);
     }
+    let room = count(source.image.words, FUNCTIONS);
     let sizes = append_or_undo(
         source,
         &mut session.derived,
@@ -96,12 +97,11 @@ pub fn map_function_handle(session: &mut Session, f: u32) -> Result<u32, Refusal
     requires { Valid session.old }
     ensures { Operates {A = ℕ} (map_function_handle f) session.old (refusal_of result) (value_in result) session.new }
 {
-    let set = session.source.ok_or(Refusal::NoSource)?;
-    let room = count(session.words, FUNCTIONS);
-    if room <= f as usize {
-        return Err(Refusal::NumberGiven);
-    }
-    let source = set.over(session.words, session.tags);
+    let r = Reference {
+        table: FUNCTIONS,
+        number: f,
+    };
+    let source = source_with(session.source, session.words, session.tags, r)?;
     if follow_rings(
         source.image,
         &session.derived.view(session.sizes),
@@ -113,6 +113,7 @@ pub fn map_function_handle(session: &mut Session, f: u32) -> Result<u32, Refusal
     if let Some(handle) = known(source.image, &view, f as usize) {
         return Ok(handle);
     }
+    let room = count(source.image.words, FUNCTIONS);
     let sizes = append_or_undo(
         source,
         &mut session.derived,
@@ -136,6 +137,7 @@ pub fn finish_with_entries(session: &mut Session, output: &mut [u8]) -> Result<u
     if entries_ring(source.image, &session.derived.view(session.sizes)) {
         return Err(Refusal::UnknownRing);
     }
+    // whole, and no `Snapshot::of`: that clears as many words first and then copies those in use, row by row, which is less only where few are
     let saved = Snapshot {
         starts: *session.derived.starts,
         maps: *session.derived.maps,

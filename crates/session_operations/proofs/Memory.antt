@@ -1,5 +1,6 @@
 -- What operations leave of a session's memory: the arrays are the caller's, and stacks that are empty between operations stay so.
 use mathlib.Core.Path.{◌≡◌, refl}
+use mathlib.Core.Bool.{Bool, true, false, not}
 use mathlib.Core.List.{List}
 use Prim.Native.Nat.{ℕ}
 use native.Mathlib.Omega.{arith}
@@ -23,3 +24,7 @@ stacks_low h l = record { four = h.four; rows = h.rows; high = let p = l.0 in om
 pub no_source : (f : Option SetSource) (e y : Refusal) (r : Result SetSource Refusal) → r ≡ ok_or f e → r ≡ Err y → (f ≡ None) × (y ≡ e)
 no_source None e y r is q = (refl, cc)
 no_source (Some a) e y r is q = absurd (cc)
+
+-- as the lemmas on a source have it
+pub set_not : {b : Bool} → b ≡ true → not b ≡ false
+set_not e = rw e

@@ -1,5 +1,7 @@
 -- A session in arrays of the caller: the model's session that it means, when it is valid between two operations, and what an operation on it promises.
-use Rattle.std.specs.Prelude.{◌≡◌, ℕ, Bool, true, false, List, Option, None, Some, replicate, slice_set}
+use Rattle.std.specs.Prelude.{◌≡◌, ◌≤◌, ◌⊎◌, ℕ, Bool, true, false, List, Option, None, Some, replicate, slice_set}
+use Rattle.base_refusals.specs.declared.Refusal.{Refusal}
+use Rattle.base_refusals.specs.declared.Refusal.TheVariants.{NoSource, NumberGiven}
 use Rattle.model.specs.Session.{Session as Session', Answer}
 use Rattle.derive_state.specs.Sizes.{going}
 use Rattle.derive_state.specs.Held.{SameArrays}
@@ -21,6 +23,10 @@ n_in (Some s) = s.n
 abbrev pub offset_in : Option SetSource → ℕ
 offset_in None = 0
 offset_in (Some s) = s.offset
+
+-- why a source has no record of the number h, where the table has c: none is set, or the number is no less than c
+abbrev pub Absent : Option SetSource → ℕ → ℕ → Refusal → Type 0
+Absent source c h e = ((source ≡ None) × (e ≡ NoSource)) ⊎ ((is_set source ≡ true) × (c ≤ h) × (e ≡ NumberGiven))
 
 -- ---- the session
 abbrev pub meant : Session → Session'

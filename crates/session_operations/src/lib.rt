@@ -2,8 +2,9 @@
 // session is as it was.
 #![tactic(auto)]
 
-ghost use Rattle.std.specs.Prelude.{◌≡◌, ℕ, ◌<◌, ◌≤◌, false, length};
+ghost use Rattle.std.specs.Prelude.{MatchResult, Some, ◌≡◌, ℕ, ◌<◌, ◌≤◌, false, length};
 ghost use Rattle.base_words.specs.Words.{words_of};
+ghost use Rattle.model.specs.Module.{count_at};
 ghost use Rattle.model.specs.Session.{importing, rename_type, set as setOf, finish as finishOf};
 ghost use Rattle.base_handles.specs.Handles.{table_of, number_in};
 ghost use Rattle.derive_state.specs.Held.{Specials};
@@ -11,13 +12,14 @@ ghost use Rattle.derive_state.specs.Sizes.{going};
 ghost use Rattle.derive_finish.specs.Told.{refusal_of, bytes_in};
 ghost use Rattle.session_operations.specs.Operations.{MapSpanEnsures, RequiredEnsures};
 ghost use Rattle.session_operations.specs.Answers.{value_in, start_of, end_of};
-ghost use Rattle.session_operations.specs.Sessions.{is_set, offset_in, Valid, Operates, Finishes, renewed};
+ghost use Rattle.session_operations.specs.Sessions.{is_set, offset_in, Absent, Valid, Operates, Finishes, renewed};
 
 use base_handles::{RecordHandle, TypeHandle};
 use base_refusals::Refusal;
 use base_views::{Image, NAMES, TYPES, count};
 use base_words::{Tags, Words};
 use derive_finish::finish;
+use derive_imports::Reference;
 use derive_rollback::mapped_to;
 use derive_source::set_source;
 use derive_state::{DerivedMut, ShaderSource, Sizes, Special, StackRows, clear_maps};
@@ -46,6 +48,23 @@ impl SetSource {
     }
 }
 
+// The source that is set, with its words and their classes, if it has a record.
+pub fn source_with<'a>(
+    source: Option<SetSource>,
+    words: &'a Words,
+    tags: &'a Tags,
+    r: Reference,
+) -> Result<ShaderSource<'a>, Refusal>
+    requires { r.table < 9 }
+    ensures { MatchResult result (λ s. (source ≡ Some (record { n = s.image.n; offset = s.offset })) × (s.image.words.now ≡ words.now) × (s.image.tags.now ≡ tags.now) × (r.number < count_at r.table words.now)) (λ e. Absent source (count_at r.table words.now) r.number e) }
+{
+    let set = source.ok_or(Refusal::NoSource)?;
+    if count(words, r.table) <= r.number as usize {
+        return Err(Refusal::NumberGiven);
+    }
+    Ok(set.over(words, tags))
+}
+
 // A session: the source that is set, if one is, with the words of it and their classes; and the derived module with its special types, the stacks of functions
 // under construction, which are empty between operations, and its sizes.
 #[derive(Drop)]
@@ -64,16 +83,14 @@ pub fn import(session: &mut Session, handle: RecordHandle) -> Result<u32, Refusa
     requires { Valid session.old }
     ensures { Operates {A = ℕ} (importing (table_of handle) (number_in handle)) session.old (refusal_of result) (value_in result) session.new }
 {
-    let set = session.source.ok_or(Refusal::NoSource)?;
-    let t = handle.section();
-    let h = handle.number();
-    if count(session.words, t) <= h as usize {
-        return Err(Refusal::NumberGiven);
-    }
-    let source = set.over(session.words, session.tags);
-    let sizes = derive_rollback::import(source, &mut session.derived, session.sizes, t, h)?;
+    let r = Reference {
+        table: handle.section(),
+        number: handle.number(),
+    };
+    let source = source_with(session.source, session.words, session.tags, r)?;
+    let sizes = derive_rollback::import(source, &mut session.derived, session.sizes, r)?;
     session.sizes = sizes;
-    Ok(mapped_to(session.derived.view(sizes).maps, t, h))
+    Ok(mapped_to(session.derived.view(sizes).maps, r))
 }
 
 // rename_type: imports type h under the name with the given number.
@@ -81,11 +98,14 @@ pub fn rename_type(session: &mut Session, h: u32, name: u32) -> Result<u32, Refu
     requires { Valid session.old }
     ensures { Operates {A = ℕ} (rename_type h name) session.old (refusal_of result) (value_in result) session.new }
 {
-    let set = session.source.ok_or(Refusal::NoSource)?;
-    if count(session.words, TYPES) <= h as usize || count(session.words, NAMES) <= name as usize {
+    let r = Reference {
+        table: TYPES,
+        number: h,
+    };
+    let source = source_with(session.source, session.words, session.tags, r)?;
+    if count(source.image.words, NAMES) <= name as usize {
         return Err(Refusal::NumberGiven);
     }
-    let source = set.over(session.words, session.tags);
     let sizes = derive_rollback::rename_type(
         source,
         &mut session.derived,
@@ -94,7 +114,7 @@ pub fn rename_type(session: &mut Session, h: u32, name: u32) -> Result<u32, Refu
         name,
     )?;
     session.sizes = sizes;
-    Ok(mapped_to(session.derived.view(sizes).maps, TYPES, h))
+    Ok(mapped_to(session.derived.view(sizes).maps, r))
 }
 
 // A span by the source's offset.

@@ -3,4 +3,4 @@ use Rattle.base_words.proofs.Loops.{Storing}
 use Rattle.base_words.proofs.store.Given as goal
 
 abbrev pub invariant-loop-j : goal.invariant-loop-j
-invariant-loop-j l = Storing l.words l.n l.initial.bytes l.bytes l.j
+invariant-loop-j l = Storing l.words l.initial.bytes l.bytes l.j

@@ -2,7 +2,7 @@ use Prim.Native.Nat.{◌+◌, ◌*◌}
 use native.Mathlib.Omega.{arith}
 use lib.ListN.{take}
 use Rattle.std.proofs.lemmas.Result.{err_from_is_err_and}
-use Rattle.derive_image.proofs.Storing.{many_functions, many_entries, too_long, no_room, stored, out_long, small, store-room, refused_full}
+use Rattle.derive_image.proofs.Storing.{many_functions, many_entries, too_long, no_room, stored, small, store-room, refused_full}
 use Rattle.derive_image.proofs.finish.Goals as goal
 use Rattle.derive_image.proofs.finish.Goals.{then-counts-gt-MOST_FUNCTIONS-via-then-counts-gt-MOST_FUNCTIONS, then-counts-gt-MOST_FUNCTIONS-via-else-counts-gt-MOST_FUNCTIONS+then-counts-gt-MOST_ENTRIES}
 
@@ -27,7 +27,7 @@ pub returns-then-output-k : goal.returns-then-output-k
 returns-then-output-k c = let a = c.args in no_room a.derived.now.log.now a.derived.now.logtags.now a.derived.now.starts.now a.derived.now.sizes.counts c.requires.valid_tables a.derived.now.sizes.pairs (take (3 + 2 * a.derived.now.sizes.pairs) a.special.now) a.output.now _ _ _ c.finish_words.ensures c.if-counts-gt-MOST_FUNCTIONS.false c.if-counts-gt-MOST_ENTRIES.false _ c.in_ok-k.ensures.ok_part c.if-output-k.true
 
 pub store-requires : goal.store-requires
-store-requires c = let a = c.args in record { n_in_bounds = store-room a.derived.now.log.now a.derived.now.logtags.now a.derived.now.starts.now a.derived.now.sizes.counts c.requires.valid_tables a.derived.now.sizes.pairs (take (3 + 2 * a.derived.now.sizes.pairs) a.special.now) a.output.now _ _ _ c.finish_words.ensures c.if-counts-gt-MOST_FUNCTIONS.false c.if-counts-gt-MOST_ENTRIES.false _ c.in_ok-k.ensures.ok_part c.requires.pairs_bound.2 (out_long a.derived.now.log.now a.derived.now.logtags.now a.derived.now.starts.now a.derived.now.sizes.counts c.requires.valid_tables a.derived.now.sizes.pairs (take (3 + 2 * a.derived.now.sizes.pairs) a.special.now) a.output.now _ _ _ c.finish_words.ensures c.if-counts-gt-MOST_FUNCTIONS.false c.if-counts-gt-MOST_ENTRIES.false _ c.in_ok-k.ensures.ok_part c.requires.pairs_bound.2); n_in_bounds_2 = c.if-output-k.false }
+store-requires c = let a = c.args in store-room a.derived.now.log.now a.derived.now.logtags.now a.derived.now.starts.now a.derived.now.sizes.counts c.requires.valid_tables a.derived.now.sizes.pairs (take (3 + 2 * a.derived.now.sizes.pairs) a.special.now) a.output.now _ _ _ c.finish_words.ensures c.if-counts-gt-MOST_FUNCTIONS.false c.if-counts-gt-MOST_ENTRIES.false _ c.in_ok-k.ensures.ok_part c.requires.pairs_bound.2 c.if-output-k.false
 
 pub returns : goal.returns
 returns c = let a = c.args in stored a.derived.now.log.now a.derived.now.logtags.now a.derived.now.starts.now a.derived.now.sizes.counts c.requires.valid_tables a.derived.now.sizes.pairs (take (3 + 2 * a.derived.now.sizes.pairs) a.special.now) a.output.now _ _ _ c.finish_words.ensures c.if-counts-gt-MOST_FUNCTIONS.false c.if-counts-gt-MOST_ENTRIES.false _ c.in_ok-k.ensures.ok_part c.requires.pairs_bound.2 c.if-output-k.false _ c.store.ensures

@@ -10,7 +10,7 @@ use Rattle.derive_state.specs.Held.{SameArrays}
 use Rattle.derive_imports.proofs.+import.Given as goal
 
 abbrev pub decreases-import : goal.decreases-import
-decreases-import l = rank (src_of l.source.image.words.now l.source.image.n) (tab_of l.table) l.number
+decreases-import l = rank (src_of l.source.image.words.now l.source.image.n) (tab_of l.r.table) l.r.number
 
 abbrev pub invariant-loop-j : goal.invariant-loop-j
-invariant-loop-j l = (Turn l.source.image.words.now l.source.image.tags.now l.source.image.n l.source.offset l.table l.k (refs (rec_at (src_of l.source.image.words.now l.source.image.n) (tab_of l.table) l.k)) l.initial.derived.log.now l.initial.derived.logtags.now l.initial.derived.starts.now l.initial.derived.maps.now l.initial.derived.buckets.now (going l.initial.e) l.end l.derived.log.now l.derived.logtags.now l.derived.starts.now l.derived.maps.now l.derived.buckets.now (going l.e) l.j) × SameArrays l.initial.derived l.derived
+invariant-loop-j l = (Turn l.source.image.words.now l.source.image.tags.now l.source.image.n l.source.offset l.r.table l.k (refs (rec_at (src_of l.source.image.words.now l.source.image.n) (tab_of l.r.table) l.k)) l.initial.derived.log.now l.initial.derived.logtags.now l.initial.derived.starts.now l.initial.derived.maps.now l.initial.derived.buckets.now (going l.initial.e) l.end l.derived.log.now l.derived.logtags.now l.derived.starts.now l.derived.maps.now l.derived.buckets.now (going l.e) l.j) × SameArrays l.initial.derived l.derived

@@ -18,5 +18,5 @@ returns c =
     let starts = row d.starts.now a.t in
     let q = c.requires.t_bound in
     let within : a.n ≤ length starts = rw q.4 q.1 in
-    let cells = carried_by (went_r d.maps.now) a.image.tags.now a.image.words.now a.at a.end in
+    let cells = carried_by (went_r d.maps.now) a.source.image.tags.now a.source.image.words.now a.source.at a.source.end in
     first_is d.log.now d.logtags.now starts cells a.n within c.find.result (find_from_yields_List (is_alike d.log.now d.logtags.now starts cells a.n within) _ _ c.find.result c.find.ensures.ran (YieldsList-from_range 0 a.n a.n refl (omega arith)) (λ x b q k. search (rules, tests)))

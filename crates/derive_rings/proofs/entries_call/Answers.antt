@@ -1,13 +1,19 @@
 -- `derive_rings::entries_call` meets its contract: each entry point is asked whether its function calls one.
-use mathlib.Core.Path.{refl}
+use mathlib.Core.Path.{refl, ◌∙◌}
+use Prim.Native.Nat.{◌-◌}
+use native.Mathlib.Omega.{arith}
 use borrow.Author.Tests.{tests}
 use Rattle.std.proofs.Common.{rules}
-use Rattle.derive_rings.proofs.Wholes.{few}
-use Rattle.derive_rings.proofs.Asking.{is_of, widened, scannable, meets_is}
+use Rattle.std.proofs.lemmas.Iterator.{YieldsList-from_range, serves_from_Range}
+use Rattle.std.proofs.lemmas.Iterator.Search.{any_from_yields_List}
+use Rattle.derive_rings.proofs.Asking.{is_of, entry_calls, entries_are}
 use Rattle.derive_rings.proofs.entries_call.Goals as goal
 
-pub any_entry-requires-clause-tests : goal.any_entry-requires-clause-tests
-any_entry-requires-clause-tests c = λ e h. let s = widened (few c.requires) (scannable c.requires refl h refl refl) in search (rules, tests)
+pub any-requires-clause-callable : goal.any-requires-clause-callable
+any-requires-clause-callable c = serves_from_Range (λ x q k. search (rules, tests)) (λ x lo hi. let r = c.requires in let n = c.count.ensures.0 in search (rules, tests))
 
 pub returns : goal.returns
-returns c = meets_is c.requires (is_of c.args.set.now.0) (λ from to b k. search (rules, tests)) c.any_entry.ensures
+returns c =
+    let a = c.args in
+    let p = is_of a.set.now.0 in
+    any_from_yields_List (entry_calls c.requires p) _ _ c.any.result c.any.ensures.ran (YieldsList-from_range 0 c.count.result (c.count.result - 0) refl (omega arith)) (λ x b q k. search (rules, tests)) ∙ entries_are c.requires p c.count.ensures.0

@@ -4,4 +4,4 @@ use Rattle.derive_state.proofs.Passes.{Comparing}
 use Rattle.derive_state.proofs.alike.Given as goal
 
 abbrev pub invariant-loop-j : goal.invariant-loop-j
-invariant-loop-j l = Comparing l.image.words.now l.image.tags.now l.derived.log.now l.derived.logtags.now (went_r l.derived.maps.now) l.at l.end l.s l.j (l.s + 1 + (l.j - l.at))
+invariant-loop-j l = Comparing l.source.image.words.now l.source.image.tags.now l.derived.log.now l.derived.logtags.now (went_r l.derived.maps.now) l.source.at l.source.end l.s l.j (l.s + 1 + (l.j - l.source.at))

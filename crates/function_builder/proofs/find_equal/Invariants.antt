@@ -6,7 +6,7 @@ use Rattle.derive_state.specs.Sizes.{going}
 use Rattle.function_builder.proofs.find_equal.Given as goal
 
 abbrev pub invariant-loop-k : goal.invariant-loop-k
-invariant-loop-k l = Sieving l.image.words.now l.image.tags.now (went_of l.image.words.now l.image.n l.derived.log.now l.derived.logtags.now l.derived.starts.now l.derived.maps.now (going l.derived.sizes) l.exprmap) l.at l.end l.stacks l.e1 (going l.derived.sizes) l.k l.p l.y
+invariant-loop-k l = Sieving l.piece.source.image.words.now l.piece.source.image.tags.now (went_of l.piece.source.image.words.now l.piece.source.image.n l.derived.log.now l.derived.logtags.now l.derived.starts.now l.derived.maps.now (going l.derived.sizes) l.exprmap) l.piece.at l.piece.end l.stacks l.e1 (going l.derived.sizes) l.k l.p l.y
 
 abbrev pub decreases-loop-k : goal.decreases-loop-k
 decreases-loop-k l = l.derived.sizes.made - l.k

@@ -17,28 +17,28 @@ pub loop-r-init : goal.loop-r-init
 loop-r-init c = (declare_begin c.requires.valid_arrays c.requires.under refl c.requires.declares, arrays_same _)
 
 pub copy_mapped_run-r-requires : goal.copy_mapped_run-r-requires
-copy_mapped_run-r-requires c = let D = c.loop-r.invariant.0 in let K = D.runs.kept D.going in let U = D.runs.under D.going in record { legible = (legible_all c.requires.expressions.few D.left.legible, U.stacks_are.high', made_small U) }
+copy_mapped_run-r-requires c = let D = c.loop-r.invariant.0 in let K = D.runs.kept D.going in let U = D.runs.under D.going in record { legible = (legible_all c.args.function.expressions.few D.left.legible, U.stacks_are.high', made_small U) }
 
 pub returns-then-r-end : goal.returns-then-r-end
-returns-then-r-end c = let l = c.loop-r in record { does = let a = c.args in let K = c.requires.valid_arrays in let D = declare_ran K c.requires.ground.source a.function.source.offset (unites-idle c.requires.expressions a.function.source.image.n a.function.source.offset) a.at a.end a.exprmap.now a.stacks.now a.function.base (going l.r.sizes) l.derived.log.now l.derived.logtags.now l.derived.starts.now l.derived.maps.now l.derived.buckets.now l.exprmap l.invariant.0 c.copy_mapped_run-r.ensures.ran (ap going c.copy_mapped_run-r.ensures.sizes) in declare_done K D (let z = c.if-r-end.true in omega arith); same = l.invariant.1 }
+returns-then-r-end c = let l = c.loop-r in record { does = let a = c.args in let K = c.requires.valid_arrays in let D = declare_ran K c.requires.ground.source a.function.source.offset (unites-idle c.args.function.expressions a.function.source.image.n a.function.source.offset) a.at a.end a.exprmap.now a.stacks.now a.function.base (going l.r.sizes) l.derived.log.now l.derived.logtags.now l.derived.starts.now l.derived.maps.now l.derived.buckets.now l.exprmap l.invariant.0 c.copy_mapped_run-r.ensures.ran (ap going c.copy_mapped_run-r.ensures.sizes) in declare_done K D (let z = c.if-r-end.true in omega arith); same = l.invariant.1 }
 
 pub import_declaration_word-requires : goal.import_declaration_word-requires
-import_declaration_word-requires c = let a = c.args in let l = c.loop-r in let K = c.requires.valid_arrays in let D = declare_ran K c.requires.ground.source a.function.source.offset (unites-idle c.requires.expressions a.function.source.image.n a.function.source.offset) a.at a.end a.exprmap.now a.stacks.now a.function.base (going l.r.sizes) l.derived.log.now l.derived.logtags.now l.derived.starts.now l.derived.maps.now l.derived.buckets.now l.exprmap l.invariant.0 c.copy_mapped_run-r.ensures.ran (ap going c.copy_mapped_run-r.ensures.sizes) in let ne = c.if-r-end.false in let up = D.left.legible.stretch.rising in let less : c.copy_mapped_run-r.result.at < a.end = omega arith in record { ground = c.requires.ground; expressions = c.requires.expressions; i_bound = (declare_in K D less, declare_fits K D less); valid_arrays = D.runs.kept D.going; under = D.runs.under D.going }
+import_declaration_word-requires c = let a = c.args in let l = c.loop-r in let K = c.requires.valid_arrays in let D = declare_ran K c.requires.ground.source a.function.source.offset (unites-idle c.args.function.expressions a.function.source.image.n a.function.source.offset) a.at a.end a.exprmap.now a.stacks.now a.function.base (going l.r.sizes) l.derived.log.now l.derived.logtags.now l.derived.starts.now l.derived.maps.now l.derived.buckets.now l.exprmap l.invariant.0 c.copy_mapped_run-r.ensures.ran (ap going c.copy_mapped_run-r.ensures.sizes) in let ne = c.if-r-end.false in let up = D.left.legible.stretch.rising in let less : c.copy_mapped_run-r.result.at < a.end = omega arith in record { ground = c.requires.ground; i_bound = (declare_in K D less, declare_fits K D less); valid_arrays = D.runs.kept D.going; under = D.runs.under D.going }
 
 pub returns-in_err-e : goal.returns-in_err-e
-returns-in_err-e c = let p = err_from_is_err_and c.from_residual.result c.from_residual.ensures.1 in rw (p.1, p.2) (record { does = let a = c.args in let l = c.loop-r in let K = c.requires.valid_arrays in let D = declare_ran K c.requires.ground.source a.function.source.offset (unites-idle c.requires.expressions a.function.source.image.n a.function.source.offset) a.at a.end a.exprmap.now a.stacks.now a.function.base (going l.r.sizes) l.derived.log.now l.derived.logtags.now l.derived.starts.now l.derived.maps.now l.derived.buckets.now l.exprmap l.invariant.0 c.copy_mapped_run-r.ensures.ran (ap going c.copy_mapped_run-r.ensures.sizes) in let ne = c.if-r-end.false in let up = D.left.legible.stretch.rising in let less : c.copy_mapped_run-r.result.at < a.end = omega arith in declare_full K D less c.span_undefined.ensures c.in_err-e.ensures.does refl (unites_grow a.function.source.offset a.function.source.image.words.now a.function.source.image.tags.now a.function.source.image.n a.function.places.now a.function.count); same = arrays_then c.loop-r.invariant.1 c.in_err-e.ensures.same })
+returns-in_err-e c = let p = err_from_is_err_and c.from_residual.result c.from_residual.ensures.1 in rw (p.1, p.2) (record { does = let a = c.args in let l = c.loop-r in let K = c.requires.valid_arrays in let D = declare_ran K c.requires.ground.source a.function.source.offset (unites-idle c.args.function.expressions a.function.source.image.n a.function.source.offset) a.at a.end a.exprmap.now a.stacks.now a.function.base (going l.r.sizes) l.derived.log.now l.derived.logtags.now l.derived.starts.now l.derived.maps.now l.derived.buckets.now l.exprmap l.invariant.0 c.copy_mapped_run-r.ensures.ran (ap going c.copy_mapped_run-r.ensures.sizes) in let ne = c.if-r-end.false in let up = D.left.legible.stretch.rising in let less : c.copy_mapped_run-r.result.at < a.end = omega arith in declare_full K D less c.span_undefined.ensures c.in_err-e.ensures.does refl (unites_grow a.function.source.offset a.function.source.image.words.now a.function.source.image.tags.now a.function.source.image.n a.function.places.now a.function.count); same = arrays_then c.loop-r.invariant.1 c.in_err-e.ensures.same })
 
 pub put_word-requires : goal.put_word-requires
-put_word-requires c = let a = c.args in let l = c.loop-r in let K = c.requires.valid_arrays in let D = declare_ran K c.requires.ground.source a.function.source.offset (unites-idle c.requires.expressions a.function.source.image.n a.function.source.offset) a.at a.end a.exprmap.now a.stacks.now a.function.base (going l.r.sizes) l.derived.log.now l.derived.logtags.now l.derived.starts.now l.derived.maps.now l.derived.buckets.now l.exprmap l.invariant.0 c.copy_mapped_run-r.ensures.ran (ap going c.copy_mapped_run-r.ensures.sizes) in let ne = c.if-r-end.false in let up = D.left.legible.stretch.rising in let less : c.copy_mapped_run-r.result.at < a.end = omega arith in let A = c.in_ok-e.ensures.does in let z = refl in let v = c.view.ensures in record { ground = c.requires.ground; bearing = rw (v.0, v.1, v.2, v.5) (bearing (A.kept z)); i_bound = (declare_in K D less, fits_all a.function.source.image.words.now _ _ c.requires.expressions.few (declare_fits K D less)); stacks = rw v.5 (A.under z).stacks_are }
+put_word-requires c = let a = c.args in let l = c.loop-r in let K = c.requires.valid_arrays in let D = declare_ran K c.requires.ground.source a.function.source.offset (unites-idle c.args.function.expressions a.function.source.image.n a.function.source.offset) a.at a.end a.exprmap.now a.stacks.now a.function.base (going l.r.sizes) l.derived.log.now l.derived.logtags.now l.derived.starts.now l.derived.maps.now l.derived.buckets.now l.exprmap l.invariant.0 c.copy_mapped_run-r.ensures.ran (ap going c.copy_mapped_run-r.ensures.sizes) in let ne = c.if-r-end.false in let up = D.left.legible.stretch.rising in let less : c.copy_mapped_run-r.result.at < a.end = omega arith in let A = c.in_ok-e.ensures.does in let z = refl in let v = c.view.ensures in record { ground = c.requires.ground; bearing = rw (v.0, v.1, v.2, v.5) (bearing (A.kept z)); i_bound = (declare_in K D less, fits_all a.function.source.image.words.now _ _ c.args.function.expressions.few (declare_fits K D less)); stacks = rw v.5 (A.under z).stacks_are }
 
 pub returns-in_err-r : goal.returns-in_err-r
-returns-in_err-r c = let p = err_from_is_err_and c.from_residual-in_err-r.result c.from_residual-in_err-r.ensures.1 in let v = c.view.ensures in rw (p.1, p.2) (record { does = let a = c.args in let l = c.loop-r in let K = c.requires.valid_arrays in let D = declare_ran K c.requires.ground.source a.function.source.offset (unites-idle c.requires.expressions a.function.source.image.n a.function.source.offset) a.at a.end a.exprmap.now a.stacks.now a.function.base (going l.r.sizes) l.derived.log.now l.derived.logtags.now l.derived.starts.now l.derived.maps.now l.derived.buckets.now l.exprmap l.invariant.0 c.copy_mapped_run-r.ensures.ran (ap going c.copy_mapped_run-r.ensures.sizes) in let ne = c.if-r-end.false in let up = D.left.legible.stretch.rising in let less : c.copy_mapped_run-r.result.at < a.end = omega arith in declare_over K D less c.span_undefined.ensures c.in_ok-e.ensures.does refl (rw (v.0, v.1, v.2, v.3, v.5) at c.in_err-r.ensures) refl (unites_grow a.function.source.offset a.function.source.image.words.now a.function.source.image.tags.now a.function.source.image.n a.function.places.now a.function.count); same = arrays_then c.loop-r.invariant.1 c.in_ok-e.ensures.same })
+returns-in_err-r c = let p = err_from_is_err_and c.from_residual-in_err-r.result c.from_residual-in_err-r.ensures.1 in let v = c.view.ensures in rw (p.1, p.2) (record { does = let a = c.args in let l = c.loop-r in let K = c.requires.valid_arrays in let D = declare_ran K c.requires.ground.source a.function.source.offset (unites-idle c.args.function.expressions a.function.source.image.n a.function.source.offset) a.at a.end a.exprmap.now a.stacks.now a.function.base (going l.r.sizes) l.derived.log.now l.derived.logtags.now l.derived.starts.now l.derived.maps.now l.derived.buckets.now l.exprmap l.invariant.0 c.copy_mapped_run-r.ensures.ran (ap going c.copy_mapped_run-r.ensures.sizes) in let ne = c.if-r-end.false in let up = D.left.legible.stretch.rising in let less : c.copy_mapped_run-r.result.at < a.end = omega arith in declare_over K D less c.span_undefined.ensures c.in_ok-e.ensures.does refl (rw (v.0, v.1, v.2, v.3, v.5) at c.in_err-r.ensures) refl (unites_grow a.function.source.offset a.function.source.image.words.now a.function.source.image.tags.now a.function.source.image.n a.function.places.now a.function.count); same = arrays_then c.loop-r.invariant.1 c.in_ok-e.ensures.same })
 
 pub loop-r-smaller : goal.loop-r-smaller
 loop-r-smaller c = let h = c.loop-r-test.true in let z = c.copy_mapped_run-r.ensures.ran.reach in omega arith
 
 pub loop-r-preserved : goal.loop-r-preserved
-loop-r-preserved c = (let v = c.view.ensures in let a = c.args in let l = c.loop-r in let K = c.requires.valid_arrays in let D = declare_ran K c.requires.ground.source a.function.source.offset (unites-idle c.requires.expressions a.function.source.image.n a.function.source.offset) a.at a.end a.exprmap.now a.stacks.now a.function.base (going l.r.sizes) l.derived.log.now l.derived.logtags.now l.derived.starts.now l.derived.maps.now l.derived.buckets.now l.exprmap l.invariant.0 c.copy_mapped_run-r.ensures.ran (ap going c.copy_mapped_run-r.ensures.sizes) in let ne = c.if-r-end.false in let up = D.left.legible.stretch.rising in let less : c.copy_mapped_run-r.result.at < a.end = omega arith in declare_next K D less c.span_undefined.ensures c.in_ok-e.ensures.does refl (rw (v.0, v.1, v.2, v.3, v.5) at c.in_ok-r.ensures) refl, arrays_then c.loop-r.invariant.1 c.in_ok-e.ensures.same)
+loop-r-preserved c = (let v = c.view.ensures in let a = c.args in let l = c.loop-r in let K = c.requires.valid_arrays in let D = declare_ran K c.requires.ground.source a.function.source.offset (unites-idle c.args.function.expressions a.function.source.image.n a.function.source.offset) a.at a.end a.exprmap.now a.stacks.now a.function.base (going l.r.sizes) l.derived.log.now l.derived.logtags.now l.derived.starts.now l.derived.maps.now l.derived.buckets.now l.exprmap l.invariant.0 c.copy_mapped_run-r.ensures.ran (ap going c.copy_mapped_run-r.ensures.sizes) in let ne = c.if-r-end.false in let up = D.left.legible.stretch.rising in let less : c.copy_mapped_run-r.result.at < a.end = omega arith in declare_next K D less c.span_undefined.ensures c.in_ok-e.ensures.does refl (rw (v.0, v.1, v.2, v.3, v.5) at c.in_ok-r.ensures) refl, arrays_then c.loop-r.invariant.1 c.in_ok-e.ensures.same)
 
 pub returns : goal.returns
 returns c = record { does = declare_done c.requires.valid_arrays c.loop-r.invariant.0 c.loop-r-test.false; same = c.loop-r.invariant.1 }

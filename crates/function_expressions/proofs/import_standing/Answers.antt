@@ -11,34 +11,34 @@ use Rattle.derive_state.proofs.State.{arrays_same, arrays_then}
 use Rattle.function_expressions.proofs.import_standing.Goals as goal
 
 pub returns-then-exprmap-e-ne0 : goal.returns-then-exprmap-e-ne0
-returns-then-exprmap-e-ne0 c = record { does = let a = c.args in glance-idle c.requires.expressions a.function.source.image.n a.function.source.offset refl c.requires.valid_arrays c.requires.under c.requires.e_lt_k c.if-exprmap-e-ne0.true; same = arrays_same _ }
+returns-then-exprmap-e-ne0 c = record { does = let a = c.args in glance-idle c.args.function.expressions a.function.source.image.n a.function.source.offset refl c.requires.valid_arrays c.requires.under c.requires.e_lt_k c.if-exprmap-e-ne0.true; same = arrays_same _ }
 
 pub loop-j-init : goal.loop-j-init
-loop-j-init c = (along-begin c.requires.valid_arrays (cells_legible c.requires.expressions c.requires.e_lt_k refl refl) refl c.requires.under, arrays_same _)
+loop-j-init c = (along-begin c.requires.valid_arrays (cells_legible c.args.function.expressions c.requires.e_lt_k c.expression-piece.ensures.1 c.expression-piece.ensures.2) refl c.requires.under, arrays_same _)
 
 pub import_record-requires-clause-r_bound : goal.import_record-requires-clause-r_bound
 import_record-requires-clause-r_bound c = let a = c.args in let l = c.loop-j in let inv = l.invariant.0 in let less = c.loop-j-test.true in let q = record_found (get_or a.function.source.image.tags.now l.j 0) (get_or a.function.source.image.words.now l.j 0) c.in-Some-Record.field-0-is c.in-Some-Record.ensures in (q.3, along_number c.requires.valid_arrays inv less refl q.1 q.2 q.0 q.3)
 
 pub returns-in_err-got-in-Some-Record : goal.returns-in_err-got-in-Some-Record
-returns-in_err-got-in-Some-Record c = let p = err_from_is_err_and c.from_residual.result c.from_residual.ensures.1 in rw (p.1, p.2) (record { does = let a = c.args in let l = c.loop-j in let inv = l.invariant.0 in let less = c.loop-j-test.true in let q = record_found (get_or a.function.source.image.tags.now l.j 0) (get_or a.function.source.image.words.now l.j 0) c.in-Some-Record.field-0-is c.in-Some-Record.ensures in glance_full c.requires.expressions a.function.source.image.n a.function.source.offset refl c.requires.valid_arrays c.requires.under c.requires.e_lt_k c.if-exprmap-e-ne0.false refl refl inv less (along_record c.requires.valid_arrays inv less refl q.1 q.2 q.0 c.in_err-got-in-Some-Record.ensures.does) refl; same = arrays_then c.loop-j.invariant.1 c.in_err-got-in-Some-Record.ensures.same })
+returns-in_err-got-in-Some-Record c = let p = err_from_is_err_and c.from_residual.result c.from_residual.ensures.1 in rw (p.1, p.2) (record { does = let a = c.args in let l = c.loop-j in let inv = l.invariant.0 in let less = c.loop-j-test.true in let q = record_found (get_or a.function.source.image.tags.now l.j 0) (get_or a.function.source.image.words.now l.j 0) c.in-Some-Record.field-0-is c.in-Some-Record.ensures in glance_full c.args.function.expressions a.function.source.image.n a.function.source.offset refl c.requires.valid_arrays c.requires.under c.requires.e_lt_k c.if-exprmap-e-ne0.false c.expression-piece.ensures.1 c.expression-piece.ensures.2 inv less (along_record c.requires.valid_arrays inv less refl q.1 q.2 q.0 c.in_err-got-in-Some-Record.ensures.does) refl; same = arrays_then c.loop-j.invariant.1 c.in_err-got-in-Some-Record.ensures.same })
 
 pub loop-j-preserved : goal.loop-j-preserved
 loop-j-preserved c =
     elim c.match-referent_of.branch [
       | in-None w ↦ rw (w.derived-is, w.exprmap-is, w.stacks-is, w.got-is) (let a = c.args in let l = c.loop-j in let inv = l.invariant.0 in let less = c.loop-j-test.true in along-next c.requires.valid_arrays inv less (along_absent c.requires.valid_arrays inv less refl refl refl (nothing_found (get_or a.function.source.image.tags.now l.j 0) (get_or a.function.source.image.words.now l.j 0) w.in-None.ensures)) refl, c.loop-j.invariant.1)
       | in-Some-Record+in_ok-got-in-Some-Record w ↦ rw (w.derived-is, w.exprmap-is, w.stacks-is, w.got-is) (let a = c.args in let l = c.loop-j in let inv = l.invariant.0 in let less = c.loop-j-test.true in let q = record_found (get_or a.function.source.image.tags.now l.j 0) (get_or a.function.source.image.words.now l.j 0) w.in-Some-Record.field-0-is w.in-Some-Record.ensures in along-next c.requires.valid_arrays inv less (along_record c.requires.valid_arrays inv less refl q.1 q.2 q.0 w.in_ok-got-in-Some-Record.ensures.does) refl, arrays_then c.loop-j.invariant.1 w.in_ok-got-in-Some-Record.ensures.same)
-      | in-Some-Own+then-is_unmapped_standing+in_ok-got-in-Some-Own w ↦ rw (w.derived-is, w.exprmap-is, w.stacks-is, w.got-is) (let a = c.args in let l = c.loop-j in let inv = l.invariant.0 in let less = c.loop-j-test.true in let q = own_found (get_or a.function.source.image.tags.now l.j 0) (get_or a.function.source.image.words.now l.j 0) w.in-Some-Own.field-0-is w.in-Some-Own.ensures in along-next c.requires.valid_arrays inv less (operand_done c.requires.expressions c.requires.e_lt_k c.requires.valid_arrays inv less refl q.1 q.2 q.0 refl (w.is_unmapped_standing.ensures.e_value w.if-is_unmapped_standing.true).1 w.in_ok-got-in-Some-Own.ensures.does) refl, arrays_then c.loop-j.invariant.1 w.in_ok-got-in-Some-Own.ensures.same)
-      | in-Some-Own+else-is_unmapped_standing w ↦ rw (w.derived-is, w.exprmap-is, w.stacks-is, w.got-is) (let a = c.args in let l = c.loop-j in let inv = l.invariant.0 in let less = c.loop-j-test.true in let q = own_found (get_or a.function.source.image.tags.now l.j 0) (get_or a.function.source.image.words.now l.j 0) w.in-Some-Own.field-0-is w.in-Some-Own.ensures in along-next c.requires.valid_arrays inv less (operand-idle c.requires.expressions c.requires.e_lt_k c.requires.valid_arrays inv less refl q.1 q.2 q.0 refl (w.is_unmapped_standing.ensures.e_value_2 w.if-is_unmapped_standing.false)) inv.going, c.loop-j.invariant.1)
+      | in-Some-Own+then-is_unmapped_standing+in_ok-got-in-Some-Own w ↦ rw (w.derived-is, w.exprmap-is, w.stacks-is, w.got-is) (let a = c.args in let l = c.loop-j in let inv = l.invariant.0 in let less = c.loop-j-test.true in let q = own_found (get_or a.function.source.image.tags.now l.j 0) (get_or a.function.source.image.words.now l.j 0) w.in-Some-Own.field-0-is w.in-Some-Own.ensures in along-next c.requires.valid_arrays inv less (operand_done c.args.function.expressions c.requires.e_lt_k c.requires.valid_arrays inv less refl q.1 q.2 q.0 refl (w.is_unmapped_standing.ensures.e_value w.if-is_unmapped_standing.true).1 w.in_ok-got-in-Some-Own.ensures.does) refl, arrays_then c.loop-j.invariant.1 w.in_ok-got-in-Some-Own.ensures.same)
+      | in-Some-Own+else-is_unmapped_standing w ↦ rw (w.derived-is, w.exprmap-is, w.stacks-is, w.got-is) (let a = c.args in let l = c.loop-j in let inv = l.invariant.0 in let less = c.loop-j-test.true in let q = own_found (get_or a.function.source.image.tags.now l.j 0) (get_or a.function.source.image.words.now l.j 0) w.in-Some-Own.field-0-is w.in-Some-Own.ensures in along-next c.requires.valid_arrays inv less (operand-idle c.args.function.expressions c.requires.e_lt_k c.requires.valid_arrays inv less refl q.1 q.2 q.0 refl (w.is_unmapped_standing.ensures.e_value_2 w.if-is_unmapped_standing.false)) inv.going, c.loop-j.invariant.1)
     ]
 
 pub is_unmapped_standing-requires : goal.is_unmapped_standing-requires
-is_unmapped_standing-requires c = let a = c.args in let l = c.loop-j in let inv = l.invariant.0 in let less = c.loop-j-test.true in let q = own_found (get_or a.function.source.image.tags.now l.j 0) (get_or a.function.source.image.words.now l.j 0) c.in-Some-Own.field-0-is c.in-Some-Own.ensures in let h = operand_in c.requires.expressions c.requires.e_lt_k c.requires.valid_arrays inv less refl q.1 q.2 q.0 refl in let few = c.requires.expressions.few in (omega arith, first_in c.requires.expressions h)
+is_unmapped_standing-requires c = let a = c.args in let l = c.loop-j in let inv = l.invariant.0 in let less = c.loop-j-test.true in let q = own_found (get_or a.function.source.image.tags.now l.j 0) (get_or a.function.source.image.words.now l.j 0) c.in-Some-Own.field-0-is c.in-Some-Own.ensures in let h = operand_in c.args.function.expressions c.requires.e_lt_k c.requires.valid_arrays inv less refl q.1 q.2 q.0 refl in let few = c.args.function.expressions.few in (omega arith, first_in c.args.function.expressions h)
 
 pub import_operand-requires-clause-e_lt_k : goal.import_operand-requires-clause-e_lt_k
-import_operand-requires-clause-e_lt_k c = let a = c.args in let l = c.loop-j in let inv = l.invariant.0 in let less = c.loop-j-test.true in let q = own_found (get_or a.function.source.image.tags.now l.j 0) (get_or a.function.source.image.words.now l.j 0) c.in-Some-Own.field-0-is c.in-Some-Own.ensures in operand_in c.requires.expressions c.requires.e_lt_k c.requires.valid_arrays inv less refl q.1 q.2 q.0 refl
+import_operand-requires-clause-e_lt_k c = let a = c.args in let l = c.loop-j in let inv = l.invariant.0 in let less = c.loop-j-test.true in let q = own_found (get_or a.function.source.image.tags.now l.j 0) (get_or a.function.source.image.words.now l.j 0) c.in-Some-Own.field-0-is c.in-Some-Own.ensures in operand_in c.args.function.expressions c.requires.e_lt_k c.requires.valid_arrays inv less refl q.1 q.2 q.0 refl
 
 pub returns-in_err-got-in-Some-Own : goal.returns-in_err-got-in-Some-Own
-returns-in_err-got-in-Some-Own c = let p = err_from_is_err_and c.from_residual-in_err-got-in-Some-Own.result c.from_residual-in_err-got-in-Some-Own.ensures.1 in rw (p.1, p.2) (record { does = let a = c.args in let l = c.loop-j in let inv = l.invariant.0 in let less = c.loop-j-test.true in let q = own_found (get_or a.function.source.image.tags.now l.j 0) (get_or a.function.source.image.words.now l.j 0) c.in-Some-Own.field-0-is c.in-Some-Own.ensures in glance_full c.requires.expressions a.function.source.image.n a.function.source.offset refl c.requires.valid_arrays c.requires.under c.requires.e_lt_k c.if-exprmap-e-ne0.false refl refl inv less (operand_done c.requires.expressions c.requires.e_lt_k c.requires.valid_arrays inv less refl q.1 q.2 q.0 refl (c.is_unmapped_standing.ensures.e_value c.if-is_unmapped_standing.true).1 c.in_err-got-in-Some-Own.ensures.does) refl; same = arrays_then c.loop-j.invariant.1 c.in_err-got-in-Some-Own.ensures.same })
+returns-in_err-got-in-Some-Own c = let p = err_from_is_err_and c.from_residual-in_err-got-in-Some-Own.result c.from_residual-in_err-got-in-Some-Own.ensures.1 in rw (p.1, p.2) (record { does = let a = c.args in let l = c.loop-j in let inv = l.invariant.0 in let less = c.loop-j-test.true in let q = own_found (get_or a.function.source.image.tags.now l.j 0) (get_or a.function.source.image.words.now l.j 0) c.in-Some-Own.field-0-is c.in-Some-Own.ensures in glance_full c.args.function.expressions a.function.source.image.n a.function.source.offset refl c.requires.valid_arrays c.requires.under c.requires.e_lt_k c.if-exprmap-e-ne0.false c.expression-piece.ensures.1 c.expression-piece.ensures.2 inv less (operand_done c.args.function.expressions c.requires.e_lt_k c.requires.valid_arrays inv less refl q.1 q.2 q.0 refl (c.is_unmapped_standing.ensures.e_value c.if-is_unmapped_standing.true).1 c.in_err-got-in-Some-Own.ensures.does) refl; same = arrays_then c.loop-j.invariant.1 c.in_err-got-in-Some-Own.ensures.same })
 
 pub returns : goal.returns
-returns c = record { does = let a = c.args in glance_done c.requires.expressions a.function.source.image.n a.function.source.offset refl c.requires.valid_arrays c.requires.under c.requires.e_lt_k c.if-exprmap-e-ne0.false refl refl c.loop-j.invariant.0 c.loop-j-test.false; same = c.loop-j.invariant.1 }
+returns c = record { does = let a = c.args in glance_done c.args.function.expressions a.function.source.image.n a.function.source.offset refl c.requires.valid_arrays c.requires.under c.requires.e_lt_k c.if-exprmap-e-ne0.false c.expression-piece.ensures.1 c.expression-piece.ensures.2 c.loop-j.invariant.0 c.loop-j-test.false; same = c.loop-j.invariant.1 }

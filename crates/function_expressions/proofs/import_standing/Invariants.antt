@@ -9,4 +9,4 @@ use Rattle.derive_state.specs.Held.{SameArrays}
 use Rattle.function_expressions.proofs.import_standing.Given as goal
 
 abbrev pub invariant-loop-j : goal.invariant-loop-j
-invariant-loop-j l = (Alongs l.function.source.image.words.now l.function.source.image.tags.now l.function.source.image.n l.function.count l.function.source.offset l.e l.at l.end (peek l.function.source.offset (mod_of l.function.source.image.words.now l.function.source.image.n) still (exprs_of l.function.source.image.words.now l.function.source.image.tags.now l.function.places.now l.function.count)) l.initial.derived.log.now l.initial.derived.logtags.now l.initial.derived.starts.now l.initial.derived.maps.now l.initial.derived.buckets.now l.initial.exprmap l.initial.stacks l.function.base (going l.initial.got) l.derived.log.now l.derived.logtags.now l.derived.starts.now l.derived.maps.now l.derived.buckets.now l.exprmap l.stacks (going l.got) l.j) × SameArrays l.initial.derived l.derived
+invariant-loop-j l = (Alongs l.function.source.image.words.now l.function.source.image.tags.now l.function.source.image.n l.function.count l.function.source.offset l.e l.initial.j l.j-end (peek l.function.source.offset (mod_of l.function.source.image.words.now l.function.source.image.n) still (exprs_of l.function.source.image.words.now l.function.source.image.tags.now l.function.places.now l.function.count)) l.initial.derived.log.now l.initial.derived.logtags.now l.initial.derived.starts.now l.initial.derived.maps.now l.initial.derived.buckets.now l.initial.exprmap l.initial.stacks l.function.base (going l.initial.got) l.derived.log.now l.derived.logtags.now l.derived.starts.now l.derived.maps.now l.derived.buckets.now l.exprmap l.stacks (going l.got) l.j) × SameArrays l.initial.derived l.derived

@@ -13,7 +13,7 @@ use Rattle.function_words.proofs.Calm.{legible_all}
 use Rattle.function_localize.proofs.Sums.{place_4, place-next, fewer_word, fewer_run}
 use Rattle.function_localize.proofs.Calms.{going_run}
 use Rattle.function_localize.proofs.Starts.{declares}
-use Rattle.function_localize.proofs.Locals.{exprs_low, runs_from, going_at, exprs_in, index_in, begun_kept, begun-under, declare_none, going_start, word_in, word_fits, word_bodied, callee_low, callee-ready, callee_full, callee_runs, other_runs, going_full, going_next, keep_in, keep_long, keep_exprs, keep_low, names_full, names_in_lem, names_words, names_good, names_whole}
+use Rattle.function_localize.proofs.Locals.{exprs_low, runs_from, going_at, index_in, begun_kept, begun-under, declare_none, going_start, word_in, word_fits, word_bodied, callee_low, callee-ready, callee_full, callee_runs, other_runs, going_full, going_next, keep_in, keep_long, keep_exprs, keep_low, names_full, names_in_lem, names_words, names_good, names_whole}
 use Rattle.function_localize.proofs.Follows.{follow-none, follow_old, follow-ready, follow-append}
 use Rattle.function_localize.proofs.Appending.{append-part, append-nested, append-standing, close-order, close_few, close_stacks, close_names, close-classes, close-room, append_done, append-none}
 use Rattle.derive_state.specs.Sizes.{going}
@@ -30,17 +30,14 @@ append-localize-requires t c = let a = c.args in let q = c.decreases in (omega a
 pub append-returns-in_err-got : goal.append-returns-in_err-got
 append-returns-in_err-got t c = let p = err_from_is_err_and c.from_residual.result c.from_residual.ensures.1 in rw (p.1, p.2) (record { does = let a = c.args in append-none c.requires.ground c.requires.f_bound c.record-s.ensures.0 c.record-s.ensures.1 c.requires.nested_f.scopes a.room c.in_err-got.ensures.does refl; same = c.in_err-got.ensures.same })
 
-pub append-expressions_at-requires : goal.append-expressions_at-requires
-append-expressions_at-requires t c = let a = c.args in exprs_in (append-part c.requires.ground c.requires.f_bound c.record-s.ensures.0 c.record-s.ensures.1 c.requires.nested_f.scopes)
-
-pub append-body_at-requires : goal.append-body_at-requires
-append-body_at-requires t c = let a = c.args in append-standing c.requires.ground c.requires.f_bound c.record-s.ensures.0 c.record-s.ensures.1 c.requires.nested_f.scopes
+pub append-of-place-requires : goal.append-of-place-requires
+append-of-place-requires t c = let a = c.args in append-standing c.requires.ground c.requires.f_bound c.record-s.ensures.0 c.record-s.ensures.1 c.requires.nested_f.scopes
 
 pub append-append_record-requires : goal.append-append_record-requires
-append-append_record-requires t c = let a = c.args in record { s_le_exprs = close-order c.requires.ground c.requires.f_bound c.record-s.ensures.0 c.record-s.ensures.1 c.requires.nested_f.scopes c.expressions_at.ensures.0 c.body_at.ensures a.room c.requires.valid_arrays c.in_ok-got.ensures.does refl; t_bound = (let z = close_few c.requires.ground c.requires.f_bound c.record-s.ensures.0 c.record-s.ensures.1 c.requires.nested_f.scopes c.expressions_at.ensures.0 c.body_at.ensures a.room c.requires.valid_arrays c.in_ok-got.ensures.does refl in (z.0, z.1, z.2, z.3, z.4)); stacks = close_stacks c.requires.ground c.requires.f_bound c.record-s.ensures.0 c.record-s.ensures.1 c.requires.nested_f.scopes c.expressions_at.ensures.0 c.body_at.ensures a.room c.requires.valid_arrays c.in_ok-got.ensures.does refl; body_len = close_names c.requires.ground c.requires.f_bound c.record-s.ensures.0 c.record-s.ensures.1 c.requires.nested_f.scopes c.expressions_at.ensures.0 c.body_at.ensures a.room c.requires.valid_arrays c.in_ok-got.ensures.does refl; by_index = close-classes c.requires.ground c.requires.f_bound c.record-s.ensures.0 c.record-s.ensures.1 c.requires.nested_f.scopes c.expressions_at.ensures.0 c.body_at.ensures a.room c.requires.valid_arrays c.in_ok-got.ensures.does refl; loglen_bound = close-room c.requires.ground c.requires.f_bound c.record-s.ensures.0 c.record-s.ensures.1 c.requires.nested_f.scopes c.expressions_at.ensures.0 c.body_at.ensures a.room c.requires.valid_arrays c.in_ok-got.ensures.does refl }
+append-append_record-requires t c = let a = c.args in let P = c.of-place.ensures in rw (P.0, P.3) (record { s_le_exprs = close-order c.requires.ground c.requires.f_bound c.record-s.ensures.0 c.record-s.ensures.1 c.requires.nested_f.scopes P.1 P.2 a.room c.requires.valid_arrays c.in_ok-got.ensures.does refl; t_bound = (let z = close_few c.requires.ground c.requires.f_bound c.record-s.ensures.0 c.record-s.ensures.1 c.requires.nested_f.scopes P.1 P.2 a.room c.requires.valid_arrays c.in_ok-got.ensures.does refl in (z.0, z.1, z.2, z.3, z.4)); stacks = close_stacks c.requires.ground c.requires.f_bound c.record-s.ensures.0 c.record-s.ensures.1 c.requires.nested_f.scopes P.1 P.2 a.room c.requires.valid_arrays c.in_ok-got.ensures.does refl; body_len = close_names c.requires.ground c.requires.f_bound c.record-s.ensures.0 c.record-s.ensures.1 c.requires.nested_f.scopes P.1 P.2 a.room c.requires.valid_arrays c.in_ok-got.ensures.does refl; by_index = close-classes c.requires.ground c.requires.f_bound c.record-s.ensures.0 c.record-s.ensures.1 c.requires.nested_f.scopes P.1 P.2 a.room c.requires.valid_arrays c.in_ok-got.ensures.does refl; loglen_bound = close-room c.requires.ground c.requires.f_bound c.record-s.ensures.0 c.record-s.ensures.1 c.requires.nested_f.scopes P.1 P.2 a.room c.requires.valid_arrays c.in_ok-got.ensures.does refl })
 
 pub append-returns : goal.append-returns
-append-returns t c = record { does = let a = c.args in append_done c.requires.ground c.requires.f_bound c.record-s.ensures.0 c.record-s.ensures.1 c.requires.nested_f.scopes c.expressions_at.ensures.0 c.body_at.ensures a.room c.requires.valid_arrays c.in_ok-got.ensures.does refl c.requires.nested_f c.append_record.ensures; same = (let S = c.in_ok-got.ensures.same in record { log_same = S.log_same; logtags_same = S.logtags_same; starts_same = S.starts_same; maps_same = S.maps_same; buckets_same = S.buckets_same }) }
+append-returns t c = let P = c.of-place.ensures in record { does = let a = c.args in append_done c.requires.ground c.requires.f_bound c.record-s.ensures.0 c.record-s.ensures.1 c.requires.nested_f.scopes P.1 P.2 a.room c.requires.valid_arrays c.in_ok-got.ensures.does refl c.requires.nested_f (rw (P.0, P.3) at c.append_record.ensures); same = (let S = c.in_ok-got.ensures.same in record { log_same = S.log_same; logtags_same = S.logtags_same; starts_same = S.starts_same; maps_same = S.maps_same; buckets_same = S.buckets_same }) }
 
 pub follow-returns-then-room-eq0 : goal.follow-returns-then-room-eq0
 follow-returns-then-room-eq0 t c = let a = c.args in record { import_function_ensures = record { does = follow-none a.source.image.words.now a.source.image.n a.source.offset a.f a.derived.now.log.now a.derived.now.logtags.now a.derived.now.starts.now a.derived.now.maps.now a.derived.now.buckets.now a.stacks.now (going a.ends) a.room c.if-room-eq0.true refl c.requires.stacks c.requires.valid_arrays; same = arrays_same _ }; places_after = λ _. c.requires.places_value }
@@ -72,8 +69,11 @@ localize-index_parts-at-requires t c = c.requires.part
 pub localize-no_expressions-requires : goal.localize-no_expressions-requires
 localize-no_expressions-requires t c = tt
 
+pub localize-invariant_of-declare : goal.localize-invariant_of-declare
+localize-invariant_of-declare t c = record { expressions = expressions c.requires.part c.index_parts-at.ensures }
+
 pub localize-declare-requires : goal.localize-declare-requires
-localize-declare-requires t c = let a = c.args in let x = c.index_parts-at.ensures in let b = (ap going c.no_expressions.ensures) in record { ground = c.requires.ground; expressions = expressions c.requires.part x; declares = declares c.requires.part x; valid_arrays = begun_kept c.requires.part x c.requires.valid_arrays b; under = begun-under c.requires.part x c.requires.valid_arrays b a.stacks.now c.requires.stacks }
+localize-declare-requires t c = let a = c.args in let x = c.index_parts-at.ensures in let b = (ap going c.no_expressions.ensures) in record { ground = c.requires.ground; declares = declares c.requires.part x; valid_arrays = begun_kept c.requires.part x c.requires.valid_arrays b; under = begun-under c.requires.part x c.requires.valid_arrays b a.stacks.now c.requires.stacks }
 
 pub localize-returns-in_err-declared : goal.localize-returns-in_err-declared
 localize-returns-in_err-declared t c = let p = err_from_is_err_and c.from_residual.result c.from_residual.ensures.1 in rw (p.1, p.2) (record { does = let a = c.args in declare_none c.requires.part c.index_parts-at.ensures c.requires.valid_arrays a.room (ap going c.no_expressions.ensures) c.in_err-declared.ensures.does refl; same = c.in_err-declared.ensures.same })
@@ -111,8 +111,11 @@ localize-returns-in_err-e t c = let p = err_from_is_err_and c.from_residual-in_e
 pub localize-put_word-requires : goal.localize-put_word-requires
 localize-put_word-requires t c = let v = c.view.ensures in let a = c.args in let g = c.loop-r.invariant.0.on refl c.requires.valid_arrays (going_start c.requires.part c.index_parts-at.ensures c.requires.valid_arrays a.room (ap going c.no_expressions.ensures) c.in_ok-declared.ensures.does refl) in let l = c.loop-r in let k = going_run c.requires.ground.source c.requires.part a.source.offset a.room _ (expressions c.requires.part g.read) _ _ c.requires.valid_arrays a.stacks.now l.derived.log.now l.derived.logtags.now l.derived.starts.now l.derived.maps.now l.derived.buckets.now l.exprmap (going l.r.sizes) g c.copy_mapped_run-r.ensures.ran (ap going c.copy_mapped_run-r.ensures.sizes) in let w = c.in_ok-e.ensures.import_function_ensures.does in let z = refl in record { ground = c.requires.ground; bearing = rw (v.0, v.1, v.2, v.5) (bearing (w.kept z)); i_bound = word_fits c.requires.part c.requires.valid_arrays k c.if-r-end.true; stacks = rw v.5 (w.stacks_are z) }
 
+pub localize-invariant_of-import_word : goal.localize-invariant_of-import_word
+localize-invariant_of-import_word t c = let a = c.args in let g = c.loop-r.invariant.0.on refl c.requires.valid_arrays (going_start c.requires.part c.index_parts-at.ensures c.requires.valid_arrays a.room (ap going c.no_expressions.ensures) c.in_ok-declared.ensures.does refl) in let l = c.loop-r in let k = going_run c.requires.ground.source c.requires.part a.source.offset a.room _ (expressions c.requires.part g.read) _ _ c.requires.valid_arrays a.stacks.now l.derived.log.now l.derived.logtags.now l.derived.starts.now l.derived.maps.now l.derived.buckets.now l.exprmap (going l.r.sizes) g c.copy_mapped_run-r.ensures.ran (ap going c.copy_mapped_run-r.ensures.sizes) in record { expressions = expressions c.requires.part k.read }
+
 pub localize-import_word-requires : goal.localize-import_word-requires
-localize-import_word-requires t c = let a = c.args in let g = c.loop-r.invariant.0.on refl c.requires.valid_arrays (going_start c.requires.part c.index_parts-at.ensures c.requires.valid_arrays a.room (ap going c.no_expressions.ensures) c.in_ok-declared.ensures.does refl) in let l = c.loop-r in let k = going_run c.requires.ground.source c.requires.part a.source.offset a.room _ (expressions c.requires.part g.read) _ _ c.requires.valid_arrays a.stacks.now l.derived.log.now l.derived.logtags.now l.derived.starts.now l.derived.maps.now l.derived.buckets.now l.exprmap (going l.r.sizes) g c.copy_mapped_run-r.ensures.ran (ap going c.copy_mapped_run-r.ensures.sizes) in record { ground = c.requires.ground; expressions = expressions c.requires.part k.read; bodied = word_bodied c.requires.part c.requires.valid_arrays k c.if-r-end.true; valid_arrays = k.turn.way.kept; under = k.turn.way.under }
+localize-import_word-requires t c = let a = c.args in let g = c.loop-r.invariant.0.on refl c.requires.valid_arrays (going_start c.requires.part c.index_parts-at.ensures c.requires.valid_arrays a.room (ap going c.no_expressions.ensures) c.in_ok-declared.ensures.does refl) in let l = c.loop-r in let k = going_run c.requires.ground.source c.requires.part a.source.offset a.room _ (expressions c.requires.part g.read) _ _ c.requires.valid_arrays a.stacks.now l.derived.log.now l.derived.logtags.now l.derived.starts.now l.derived.maps.now l.derived.buckets.now l.exprmap (going l.r.sizes) g c.copy_mapped_run-r.ensures.ran (ap going c.copy_mapped_run-r.ensures.sizes) in record { ground = c.requires.ground; bodied = word_bodied c.requires.part c.requires.valid_arrays k c.if-r-end.true; valid_arrays = k.turn.way.kept; under = k.turn.way.under }
 
 pub localize-returns-in_err-r : goal.localize-returns-in_err-r
 localize-returns-in_err-r t c = let v = c.view.ensures in let p = err_from_is_err_and c.from_residual-in_err-r.result c.from_residual-in_err-r.ensures.1 in rw (p.1, p.2) (record { does = let a = c.args in let g = c.loop-r.invariant.0.on refl c.requires.valid_arrays (going_start c.requires.part c.index_parts-at.ensures c.requires.valid_arrays a.room (ap going c.no_expressions.ensures) c.in_ok-declared.ensures.does refl) in let l = c.loop-r in let k = going_run c.requires.ground.source c.requires.part a.source.offset a.room _ (expressions c.requires.part g.read) _ _ c.requires.valid_arrays a.stacks.now l.derived.log.now l.derived.logtags.now l.derived.starts.now l.derived.maps.now l.derived.buckets.now l.exprmap (going l.r.sizes) g c.copy_mapped_run-r.ensures.ran (ap going c.copy_mapped_run-r.ensures.sizes) in going_full c.requires.part c.requires.valid_arrays k c.if-r-end.true c.span_undefined.ensures (callee_runs c.requires.part c.requires.valid_arrays k c.if-r-end.true c.if-source-j-eq-CALLEE.true refl c.in_ok-e.ensures.import_function_ensures.does refl c.span_undefined.result (rw (v.0, v.1, v.2, v.3, v.5) at c.in_err-r.ensures)) refl; same = arrays_then c.in_ok-declared.ensures.same (arrays_then c.loop-r.invariant.1 c.in_ok-e.ensures.import_function_ensures.same) })
@@ -139,7 +142,7 @@ pub localize-loop-r-preserved : goal.localize-loop-r-preserved
 localize-loop-r-preserved t c = (let a = c.args in record { on = λ q K₀ g₀. let g = c.loop-r.invariant.0.on q K₀ g₀ in let l = c.loop-r in let k = going_run c.requires.ground.source c.requires.part a.source.offset a.room _ (expressions c.requires.part g.read) _ _ K₀ _ l.derived.log.now l.derived.logtags.now l.derived.starts.now l.derived.maps.now l.derived.buckets.now l.exprmap (going l.r.sizes) g c.copy_mapped_run-r.ensures.ran (ap going c.copy_mapped_run-r.ensures.sizes) in k }, c.loop-r.invariant.1)
 
 pub localize-keep_names-requires : goal.localize-keep_names-requires
-localize-keep_names-requires t c = let a = c.args in let g = c.loop-r.invariant.0.on refl c.requires.valid_arrays (going_start c.requires.part c.index_parts-at.ensures c.requires.valid_arrays a.room (ap going c.no_expressions.ensures) c.in_ok-declared.ensures.does refl) in record { at_bound = keep_in c.requires.part c.requires.valid_arrays g c.loop-r-test.false; k_bound = (let z = keep_long c.requires.part c.requires.valid_arrays g c.loop-r-test.false in (z.0, z.1)); by_index = keep_exprs c.requires.part c.requires.valid_arrays g c.loop-r-test.false; by_index_2 = keep_low c.requires.part c.requires.valid_arrays g c.loop-r-test.false; stacks = g.turn.way.under.stacks_are }
+localize-keep_names-requires t c = let a = c.args in let g = c.loop-r.invariant.0.on refl c.requires.valid_arrays (going_start c.requires.part c.index_parts-at.ensures c.requires.valid_arrays a.room (ap going c.no_expressions.ensures) c.in_ok-declared.ensures.does refl) in record { at_bound = keep_in c.requires.part c.requires.valid_arrays g c.loop-r-test.false; by_index = keep_exprs c.requires.part c.requires.valid_arrays g c.loop-r-test.false; by_index_2 = keep_low c.requires.part c.requires.valid_arrays g c.loop-r-test.false; stacks = g.turn.way.under.stacks_are }
 
 pub localize-returns-in_err-kept : goal.localize-returns-in_err-kept
 localize-returns-in_err-kept t c = let p = err_from_is_err_and c.from_residual-in_err-kept.result c.from_residual-in_err-kept.ensures.1 in rw (p.1, p.2) (record { does = let a = c.args in let g = c.loop-r.invariant.0.on refl c.requires.valid_arrays (going_start c.requires.part c.index_parts-at.ensures c.requires.valid_arrays a.room (ap going c.no_expressions.ensures) c.in_ok-declared.ensures.does refl) in names_full c.requires.part c.requires.valid_arrays g c.loop-r-test.false c.in_err-kept.ensures refl; same = arrays_then c.in_ok-declared.ensures.same c.loop-r.invariant.1 })

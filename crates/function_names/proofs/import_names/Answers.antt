@@ -25,8 +25,8 @@ offset_bounds-stacks-j c = let a = c.args in let l = c.loop-i in let z = name_in
 pub bounds-stacks-j : goal.bounds-stacks-j
 bounds-stacks-j c = let a = c.args in let l = c.loop-i in let z = name_in_lem a.source.image.words.now a.source.image.n a.source.offset a.b a.derived.now.log.now a.derived.now.logtags.now a.derived.now.starts.now a.derived.now.maps.now a.derived.now.buckets.now a.stacks.now (going a.ends) c.requires.valid_arrays l.derived.log.now l.derived.logtags.now l.derived.starts.now l.derived.maps.now l.derived.buckets.now l.stacks (going l.e) l.i l.invariant.0 c.loop-i-test.true in omega arith
 
-pub overflow_sub-w : goal.overflow_sub-w
-overflow_sub-w c = let h = c.if-w-ne0.true in omega arith
+pub overflow_sub-r : goal.overflow_sub-r
+overflow_sub-r c = let h = c.if-w-ne0.true in omega arith
 
 pub import-requires : goal.import-requires
 import-requires c = let a = c.args in let l = c.loop-i in let h = name_number a.source.image.words.now a.source.image.n a.source.offset a.b a.derived.now.log.now a.derived.now.logtags.now a.derived.now.starts.now a.derived.now.maps.now a.derived.now.buckets.now a.stacks.now (going a.ends) c.requires.valid_arrays l.derived.log.now l.derived.logtags.now l.derived.starts.now l.derived.maps.now l.derived.buckets.now l.stacks (going l.e) l.i l.invariant.0 c.loop-i-test.true (get_or (row l.stacks 3) (l.i + 1) 0) ((get_or (row l.stacks 3) (l.i + 1) 0) - 1) refl c.if-w-ne0.true refl in record { source = c.requires.ground.source; number_bound = (omega arith, h); valid_arrays = l.invariant.0.kept }
@@ -35,8 +35,8 @@ pub returns-in_err-e : goal.returns-in_err-e
 unfolding tab_of
 returns-in_err-e c = let p = err_from_is_err_and c.from_residual.result c.from_residual.ensures.1 in rw (p.1, p.2) (record { does = let a = c.args in let l = c.loop-i in let h = name_number a.source.image.words.now a.source.image.n a.source.offset a.b a.derived.now.log.now a.derived.now.logtags.now a.derived.now.starts.now a.derived.now.maps.now a.derived.now.buckets.now a.stacks.now (going a.ends) c.requires.valid_arrays l.derived.log.now l.derived.logtags.now l.derived.starts.now l.derived.maps.now l.derived.buckets.now l.stacks (going l.e) l.i l.invariant.0 c.loop-i-test.true (get_or (row l.stacks 3) (l.i + 1) 0) ((get_or (row l.stacks 3) (l.i + 1) 0) - 1) refl c.if-w-ne0.true refl in name_full a.source.image.words.now a.source.image.n a.source.offset a.b a.derived.now.log.now a.derived.now.logtags.now a.derived.now.starts.now a.derived.now.maps.now a.derived.now.buckets.now a.stacks.now (going a.ends) c.requires.valid_arrays l.derived.log.now l.derived.logtags.now l.derived.starts.now l.derived.maps.now l.derived.buckets.now l.stacks (going l.e) l.i l.invariant.0 c.loop-i-test.true (get_or (row l.stacks 3) (l.i + 1) 0) ((get_or (row l.stacks 3) (l.i + 1) 0) - 1) refl c.if-w-ne0.true refl _ _ _ _ _ _ c.in_err-e.ensures.does refl; same = arrays_then c.loop-i.invariant.1 c.in_err-e.ensures.same })
 
-pub bounds-derived-w : goal.bounds-derived-w
-bounds-derived-w c = let a = c.args in let l = c.loop-i in let h = name_number a.source.image.words.now a.source.image.n a.source.offset a.b a.derived.now.log.now a.derived.now.logtags.now a.derived.now.starts.now a.derived.now.maps.now a.derived.now.buckets.now a.stacks.now (going a.ends) c.requires.valid_arrays l.derived.log.now l.derived.logtags.now l.derived.starts.now l.derived.maps.now l.derived.buckets.now l.stacks (going l.e) l.i l.invariant.0 c.loop-i-test.true (get_or (row l.stacks 3) (l.i + 1) 0) ((get_or (row l.stacks 3) (l.i + 1) 0) - 1) refl c.if-w-ne0.true refl in let s = small_number a.source.image.words.now a.source.image.tags.now a.source.image.n c.requires.ground.source 0 ((get_or (row l.stacks 3) (l.i + 1) 0) - 1) (omega arith) h in omega arith
+pub bounds-derived-r : goal.bounds-derived-r
+bounds-derived-r c = let a = c.args in let l = c.loop-i in let h = name_number a.source.image.words.now a.source.image.n a.source.offset a.b a.derived.now.log.now a.derived.now.logtags.now a.derived.now.starts.now a.derived.now.maps.now a.derived.now.buckets.now a.stacks.now (going a.ends) c.requires.valid_arrays l.derived.log.now l.derived.logtags.now l.derived.starts.now l.derived.maps.now l.derived.buckets.now l.stacks (going l.e) l.i l.invariant.0 c.loop-i-test.true (get_or (row l.stacks 3) (l.i + 1) 0) ((get_or (row l.stacks 3) (l.i + 1) 0) - 1) refl c.if-w-ne0.true refl in let s = small_number a.source.image.words.now a.source.image.tags.now a.source.image.n c.requires.ground.source 0 ((get_or (row l.stacks 3) (l.i + 1) 0) - 1) (omega arith) h in omega arith
 
 pub offset_bounds-stacks-j-then-w-ne0 : goal.offset_bounds-stacks-j-then-w-ne0
 offset_bounds-stacks-j-then-w-ne0 c = let a = c.args in let l = c.loop-i in let z = name_in_lem a.source.image.words.now a.source.image.n a.source.offset a.b a.derived.now.log.now a.derived.now.logtags.now a.derived.now.starts.now a.derived.now.maps.now a.derived.now.buckets.now a.stacks.now (going a.ends) c.requires.valid_arrays l.derived.log.now l.derived.logtags.now l.derived.starts.now l.derived.maps.now l.derived.buckets.now l.stacks (going l.e) l.i l.invariant.0 c.loop-i-test.true in omega arith

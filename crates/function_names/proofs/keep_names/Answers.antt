@@ -15,7 +15,7 @@ pub bounds-words-at : goal.bounds-words-at
 bounds-words-at c = c.requires.at_bound.0
 
 pub loop-i-init : goal.loop-i-init
-loop-i-init c = let a = c.args in keep-first a.words.now a.exprmap.now a.k a.at a.stacks.now (going a.ends) refl c.requires.stacks
+loop-i-init c = let a = c.args in keep-first a.words.now a.exprmap.now a.at a.stacks.now (going a.ends) refl c.requires.stacks
 
 pub overflow_add-q : goal.overflow_add-q
 overflow_add-q c = let a = c.args in let l = c.loop-i in let t = c.loop-i-test.true in let h : l.i < get_or a.words.now a.at 0 = c.loop-i-test.true in let b = c.requires.at_bound.1 in omega arith
@@ -33,37 +33,37 @@ pub bounds-words-q : goal.bounds-words-q
 bounds-words-q c = let a = c.args in let l = c.loop-i in let t = c.loop-i-test.true in let h : l.i < get_or a.words.now a.at 0 = c.loop-i-test.true in let b = c.requires.at_bound.1 in omega arith
 
 pub bounds-exprmap-words : goal.bounds-exprmap-words
-bounds-exprmap-words c = let a = c.args in let l = c.loop-i in let t = c.loop-i-test.true in let h : l.i < get_or a.words.now a.at 0 = c.loop-i-test.true in let low = c.requires.by_index l.i h in let b = c.requires.k_bound.0 in omega arith
+bounds-exprmap-words c = let a = c.args in let l = c.loop-i in let t = c.loop-i-test.true in let h : l.i < get_or a.words.now a.at 0 = c.loop-i-test.true in c.requires.by_index l.i h
 
 pub overflow_sub-v : goal.overflow_sub-v
-overflow_sub-v c = let a = c.args in let l = c.loop-i in let t = c.loop-i-test.true in let h : l.i < get_or a.words.now a.at 0 = c.loop-i-test.true in let low = c.requires.by_index l.i h in let small = c.requires.by_index_2 (get_or a.words.now (a.at + 1 + 2 * l.i) 0) in let s = c.if-v-ne0.true in omega arith
+overflow_sub-v c = let a = c.args in let l = c.loop-i in let t = c.loop-i-test.true in let h : l.i < get_or a.words.now a.at 0 = c.loop-i-test.true in let small = c.requires.by_index_2 (get_or a.words.now (a.at + 1 + 2 * l.i) 0) in let s = c.if-v-ne0.true in omega arith
 
 pub offset_bounds-seats-v : goal.offset_bounds-seats-v
-offset_bounds-seats-v c = let a = c.args in let l = c.loop-i in let t = c.loop-i-test.true in let h : l.i < get_or a.words.now a.at 0 = c.loop-i-test.true in let low = c.requires.by_index l.i h in let small = c.requires.by_index_2 (get_or a.words.now (a.at + 1 + 2 * l.i) 0) in let s = c.if-v-ne0.true in omega arith
+offset_bounds-seats-v c = let a = c.args in let l = c.loop-i in let t = c.loop-i-test.true in let h : l.i < get_or a.words.now a.at 0 = c.loop-i-test.true in let small = c.requires.by_index_2 (get_or a.words.now (a.at + 1 + 2 * l.i) 0) in let s = c.if-v-ne0.true in omega arith
 
 pub bounds-seats-v : goal.bounds-seats-v
-bounds-seats-v c = let a = c.args in let l = c.loop-i in let t = c.loop-i-test.true in let h : l.i < get_or a.words.now a.at 0 = c.loop-i-test.true in let low = c.requires.by_index l.i h in let small = c.requires.by_index_2 (get_or a.words.now (a.at + 1 + 2 * l.i) 0) in let s = c.if-v-ne0.true in omega arith
+bounds-seats-v c = let a = c.args in let l = c.loop-i in let t = c.loop-i-test.true in let h : l.i < get_or a.words.now a.at 0 = c.loop-i-test.true in let small = c.requires.by_index_2 (get_or a.words.now (a.at + 1 + 2 * l.i) 0) in let s = c.if-v-ne0.true in omega arith
 
 pub returns-then-e-gt16382 : goal.returns-then-e-gt16382
-returns-then-e-gt16382 c = let a = c.args in let l = c.loop-i in let t = c.loop-i-test.true in let h : l.i < get_or a.words.now a.at 0 = c.loop-i-test.true in let low = c.requires.by_index l.i h in let small = c.requires.by_index_2 (get_or a.words.now (a.at + 1 + 2 * l.i) 0) in let s = c.if-v-ne0.true in keep_full a.words.now a.exprmap.now a.k a.at a.stacks.now (going a.ends) l.stacks l.seats (going l.e) l.i l.invariant h (get_or a.words.now (a.at + 1 + 2 * l.i) 0) (get_or a.exprmap.now (get_or a.words.now (a.at + 1 + 2 * l.i) 0) 0) (get_or a.words.now (a.at + 1 + 2 * l.i + 1) 0) refl low refl refl s small (get_or l.seats ((get_or a.exprmap.now (get_or a.words.now (a.at + 1 + 2 * l.i) 0) 0) - 1) 0) refl c.if-j-eq0.true c.if-e-gt16382.true _ refl
+returns-then-e-gt16382 c = let a = c.args in let l = c.loop-i in let t = c.loop-i-test.true in let h : l.i < get_or a.words.now a.at 0 = c.loop-i-test.true in let small = c.requires.by_index_2 (get_or a.words.now (a.at + 1 + 2 * l.i) 0) in let s = c.if-v-ne0.true in keep_full a.words.now a.exprmap.now a.at a.stacks.now (going a.ends) l.stacks l.seats (going l.e) l.i l.invariant h (get_or a.words.now (a.at + 1 + 2 * l.i) 0) (get_or a.exprmap.now (get_or a.words.now (a.at + 1 + 2 * l.i) 0) 0) (get_or a.words.now (a.at + 1 + 2 * l.i + 1) 0) refl refl refl s small (get_or l.seats ((get_or a.exprmap.now (get_or a.words.now (a.at + 1 + 2 * l.i) 0) 0) - 1) 0) refl c.if-j-eq0.true c.if-e-gt16382.true _ refl
 
 pub overflow_sub-seats : goal.overflow_sub-seats
-overflow_sub-seats c = let a = c.args in let l = c.loop-i in keep-top a.words.now a.exprmap.now a.k a.at a.stacks.now (going a.ends) l.stacks l.seats (going l.e) l.i l.invariant
+overflow_sub-seats c = let a = c.args in let l = c.loop-i in keep-top a.words.now a.exprmap.now a.at a.stacks.now (going a.ends) l.stacks l.seats (going l.e) l.i l.invariant
 
 pub overflow_add-seats : goal.overflow_add-seats
-overflow_add-seats c = let a = c.args in let l = c.loop-i in let few = keep_few a.words.now a.exprmap.now a.k a.at a.stacks.now (going a.ends) l.stacks l.seats (going l.e) l.i l.invariant in omega arith
+overflow_add-seats c = let a = c.args in let l = c.loop-i in let few = keep_few a.words.now a.exprmap.now a.at a.stacks.now (going a.ends) l.stacks l.seats (going l.e) l.i l.invariant in omega arith
 
 pub overflow_sub-seats-then-j-eq0 : goal.overflow_sub-seats-then-j-eq0
-overflow_sub-seats-then-j-eq0 c = let a = c.args in let l = c.loop-i in let t = c.loop-i-test.true in let h : l.i < get_or a.words.now a.at 0 = c.loop-i-test.true in let low = c.requires.by_index l.i h in let small = c.requires.by_index_2 (get_or a.words.now (a.at + 1 + 2 * l.i) 0) in let s = c.if-v-ne0.true in omega arith
+overflow_sub-seats-then-j-eq0 c = let a = c.args in let l = c.loop-i in let t = c.loop-i-test.true in let h : l.i < get_or a.words.now a.at 0 = c.loop-i-test.true in let small = c.requires.by_index_2 (get_or a.words.now (a.at + 1 + 2 * l.i) 0) in let s = c.if-v-ne0.true in omega arith
 
 pub offset_bounds-seats-v-then-j-eq0 : goal.offset_bounds-seats-v-then-j-eq0
-offset_bounds-seats-v-then-j-eq0 c = let a = c.args in let l = c.loop-i in let t = c.loop-i-test.true in let h : l.i < get_or a.words.now a.at 0 = c.loop-i-test.true in let low = c.requires.by_index l.i h in let small = c.requires.by_index_2 (get_or a.words.now (a.at + 1 + 2 * l.i) 0) in let s = c.if-v-ne0.true in omega arith
+offset_bounds-seats-v-then-j-eq0 c = let a = c.args in let l = c.loop-i in let t = c.loop-i-test.true in let h : l.i < get_or a.words.now a.at 0 = c.loop-i-test.true in let small = c.requires.by_index_2 (get_or a.words.now (a.at + 1 + 2 * l.i) 0) in let s = c.if-v-ne0.true in omega arith
 
 pub bounds-seats-v-then-j-eq0 : goal.bounds-seats-v-then-j-eq0
-bounds-seats-v-then-j-eq0 c = let a = c.args in let l = c.loop-i in let t = c.loop-i-test.true in let h : l.i < get_or a.words.now a.at 0 = c.loop-i-test.true in let low = c.requires.by_index l.i h in let small = c.requires.by_index_2 (get_or a.words.now (a.at + 1 + 2 * l.i) 0) in let s = c.if-v-ne0.true in omega arith
+bounds-seats-v-then-j-eq0 c = let a = c.args in let l = c.loop-i in let t = c.loop-i-test.true in let h : l.i < get_or a.words.now a.at 0 = c.loop-i-test.true in let small = c.requires.by_index_2 (get_or a.words.now (a.at + 1 + 2 * l.i) 0) in let s = c.if-v-ne0.true in omega arith
 
 pub overflow_cast-v-then-j-eq0 : goal.overflow_cast-v-then-j-eq0
-overflow_cast-v-then-j-eq0 c = let a = c.args in let l = c.loop-i in let t = c.loop-i-test.true in let h : l.i < get_or a.words.now a.at 0 = c.loop-i-test.true in let low = c.requires.by_index l.i h in let small = c.requires.by_index_2 (get_or a.words.now (a.at + 1 + 2 * l.i) 0) in let s = c.if-v-ne0.true in omega arith
+overflow_cast-v-then-j-eq0 c = let a = c.args in let l = c.loop-i in let t = c.loop-i-test.true in let h : l.i < get_or a.words.now a.at 0 = c.loop-i-test.true in let small = c.requires.by_index_2 (get_or a.words.now (a.at + 1 + 2 * l.i) 0) in let s = c.if-v-ne0.true in omega arith
 
 pub push-requires : goal.push-requires
 push-requires c = c.loop-i.invariant.stacks_are
@@ -85,7 +85,7 @@ pub bounds-words-q-then-j-eq0 : goal.bounds-words-q-then-j-eq0
 bounds-words-q-then-j-eq0 c = let a = c.args in let l = c.loop-i in let t = c.loop-i-test.true in let h : l.i < get_or a.words.now a.at 0 = c.loop-i-test.true in let b = c.requires.at_bound.1 in omega arith
 
 pub push-requires-then-j-eq0 : goal.push-requires-then-j-eq0
-push-requires-then-j-eq0 c = let a = c.args in let l = c.loop-i in let t = c.loop-i-test.true in let h : l.i < get_or a.words.now a.at 0 = c.loop-i-test.true in let low = c.requires.by_index l.i h in let small = c.requires.by_index_2 (get_or a.words.now (a.at + 1 + 2 * l.i) 0) in let s = c.if-v-ne0.true in keep_stacks a.words.now a.exprmap.now a.k a.at a.stacks.now (going a.ends) l.stacks l.seats (going l.e) l.i l.invariant h (get_or a.words.now (a.at + 1 + 2 * l.i) 0) (get_or a.exprmap.now (get_or a.words.now (a.at + 1 + 2 * l.i) 0) 0) (get_or a.words.now (a.at + 1 + 2 * l.i + 1) 0) refl low refl refl s small (get_or l.seats ((get_or a.exprmap.now (get_or a.words.now (a.at + 1 + 2 * l.i) 0) 0) - 1) 0) refl c.if-j-eq0.true c.if-e-gt16382.false _ _ c.in_ok-e.ensures
+push-requires-then-j-eq0 c = let a = c.args in let l = c.loop-i in let t = c.loop-i-test.true in let h : l.i < get_or a.words.now a.at 0 = c.loop-i-test.true in let small = c.requires.by_index_2 (get_or a.words.now (a.at + 1 + 2 * l.i) 0) in let s = c.if-v-ne0.true in keep_stacks a.words.now a.exprmap.now a.at a.stacks.now (going a.ends) l.stacks l.seats (going l.e) l.i l.invariant h (get_or a.words.now (a.at + 1 + 2 * l.i) 0) (get_or a.exprmap.now (get_or a.words.now (a.at + 1 + 2 * l.i) 0) 0) (get_or a.words.now (a.at + 1 + 2 * l.i + 1) 0) refl refl refl s small (get_or l.seats ((get_or a.exprmap.now (get_or a.words.now (a.at + 1 + 2 * l.i) 0) 0) - 1) 0) refl c.if-j-eq0.true c.if-e-gt16382.false _ _ c.in_ok-e.ensures
 
 pub overflow_add-stacks : goal.overflow_add-stacks
 overflow_add-stacks c = let a = c.args in let l = c.loop-i in let t = c.loop-i-test.true in let h : l.i < get_or a.words.now a.at 0 = c.loop-i-test.true in let b = c.requires.at_bound.1 in omega arith
@@ -97,27 +97,27 @@ pub bounds-words-q-else-j-eq0 : goal.bounds-words-q-else-j-eq0
 bounds-words-q-else-j-eq0 c = let a = c.args in let l = c.loop-i in let t = c.loop-i-test.true in let h : l.i < get_or a.words.now a.at 0 = c.loop-i-test.true in let b = c.requires.at_bound.1 in omega arith
 
 pub overflow_mul-stacks : goal.overflow_mul-stacks
-overflow_mul-stacks c = let a = c.args in let l = c.loop-i in let t = c.loop-i-test.true in let h : l.i < get_or a.words.now a.at 0 = c.loop-i-test.true in let low = c.requires.by_index l.i h in let small = c.requires.by_index_2 (get_or a.words.now (a.at + 1 + 2 * l.i) 0) in let s = c.if-v-ne0.true in let k = keep-under a.words.now a.exprmap.now a.k a.at a.stacks.now (going a.ends) l.stacks l.seats (going l.e) l.i l.invariant h (get_or a.words.now (a.at + 1 + 2 * l.i) 0) (get_or a.exprmap.now (get_or a.words.now (a.at + 1 + 2 * l.i) 0) 0) (get_or a.words.now (a.at + 1 + 2 * l.i + 1) 0) refl low refl refl s small (get_or l.seats ((get_or a.exprmap.now (get_or a.words.now (a.at + 1 + 2 * l.i) 0) 0) - 1) 0) refl c.if-j-eq0.false in let m = l.invariant.stacks_are.high' in let o = c.if-j-eq0.false in omega arith
+overflow_mul-stacks c = let a = c.args in let l = c.loop-i in let t = c.loop-i-test.true in let h : l.i < get_or a.words.now a.at 0 = c.loop-i-test.true in let small = c.requires.by_index_2 (get_or a.words.now (a.at + 1 + 2 * l.i) 0) in let s = c.if-v-ne0.true in let k = keep-under a.words.now a.exprmap.now a.at a.stacks.now (going a.ends) l.stacks l.seats (going l.e) l.i l.invariant h (get_or a.words.now (a.at + 1 + 2 * l.i) 0) (get_or a.exprmap.now (get_or a.words.now (a.at + 1 + 2 * l.i) 0) 0) (get_or a.words.now (a.at + 1 + 2 * l.i + 1) 0) refl refl refl s small (get_or l.seats ((get_or a.exprmap.now (get_or a.words.now (a.at + 1 + 2 * l.i) 0) 0) - 1) 0) refl c.if-j-eq0.false in let m = l.invariant.stacks_are.high' in let o = c.if-j-eq0.false in omega arith
 
 pub overflow_add-stacks-else-j-eq0 : goal.overflow_add-stacks-else-j-eq0
-overflow_add-stacks-else-j-eq0 c = let a = c.args in let l = c.loop-i in let t = c.loop-i-test.true in let h : l.i < get_or a.words.now a.at 0 = c.loop-i-test.true in let low = c.requires.by_index l.i h in let small = c.requires.by_index_2 (get_or a.words.now (a.at + 1 + 2 * l.i) 0) in let s = c.if-v-ne0.true in let k = keep-under a.words.now a.exprmap.now a.k a.at a.stacks.now (going a.ends) l.stacks l.seats (going l.e) l.i l.invariant h (get_or a.words.now (a.at + 1 + 2 * l.i) 0) (get_or a.exprmap.now (get_or a.words.now (a.at + 1 + 2 * l.i) 0) 0) (get_or a.words.now (a.at + 1 + 2 * l.i + 1) 0) refl low refl refl s small (get_or l.seats ((get_or a.exprmap.now (get_or a.words.now (a.at + 1 + 2 * l.i) 0) 0) - 1) 0) refl c.if-j-eq0.false in let m = l.invariant.stacks_are.high' in let o = c.if-j-eq0.false in omega arith
+overflow_add-stacks-else-j-eq0 c = let a = c.args in let l = c.loop-i in let t = c.loop-i-test.true in let h : l.i < get_or a.words.now a.at 0 = c.loop-i-test.true in let small = c.requires.by_index_2 (get_or a.words.now (a.at + 1 + 2 * l.i) 0) in let s = c.if-v-ne0.true in let k = keep-under a.words.now a.exprmap.now a.at a.stacks.now (going a.ends) l.stacks l.seats (going l.e) l.i l.invariant h (get_or a.words.now (a.at + 1 + 2 * l.i) 0) (get_or a.exprmap.now (get_or a.words.now (a.at + 1 + 2 * l.i) 0) 0) (get_or a.words.now (a.at + 1 + 2 * l.i + 1) 0) refl refl refl s small (get_or l.seats ((get_or a.exprmap.now (get_or a.words.now (a.at + 1 + 2 * l.i) 0) 0) - 1) 0) refl c.if-j-eq0.false in let m = l.invariant.stacks_are.high' in let o = c.if-j-eq0.false in omega arith
 
 pub overflow_sub-stacks : goal.overflow_sub-stacks
-overflow_sub-stacks c = let a = c.args in let l = c.loop-i in let t = c.loop-i-test.true in let h : l.i < get_or a.words.now a.at 0 = c.loop-i-test.true in let low = c.requires.by_index l.i h in let small = c.requires.by_index_2 (get_or a.words.now (a.at + 1 + 2 * l.i) 0) in let s = c.if-v-ne0.true in let k = keep-under a.words.now a.exprmap.now a.k a.at a.stacks.now (going a.ends) l.stacks l.seats (going l.e) l.i l.invariant h (get_or a.words.now (a.at + 1 + 2 * l.i) 0) (get_or a.exprmap.now (get_or a.words.now (a.at + 1 + 2 * l.i) 0) 0) (get_or a.words.now (a.at + 1 + 2 * l.i + 1) 0) refl low refl refl s small (get_or l.seats ((get_or a.exprmap.now (get_or a.words.now (a.at + 1 + 2 * l.i) 0) 0) - 1) 0) refl c.if-j-eq0.false in let m = l.invariant.stacks_are.high' in let o = c.if-j-eq0.false in omega arith
+overflow_sub-stacks c = let a = c.args in let l = c.loop-i in let t = c.loop-i-test.true in let h : l.i < get_or a.words.now a.at 0 = c.loop-i-test.true in let small = c.requires.by_index_2 (get_or a.words.now (a.at + 1 + 2 * l.i) 0) in let s = c.if-v-ne0.true in let k = keep-under a.words.now a.exprmap.now a.at a.stacks.now (going a.ends) l.stacks l.seats (going l.e) l.i l.invariant h (get_or a.words.now (a.at + 1 + 2 * l.i) 0) (get_or a.exprmap.now (get_or a.words.now (a.at + 1 + 2 * l.i) 0) 0) (get_or a.words.now (a.at + 1 + 2 * l.i + 1) 0) refl refl refl s small (get_or l.seats ((get_or a.exprmap.now (get_or a.words.now (a.at + 1 + 2 * l.i) 0) 0) - 1) 0) refl c.if-j-eq0.false in let m = l.invariant.stacks_are.high' in let o = c.if-j-eq0.false in omega arith
 
 pub offset_bounds-stacks-b : goal.offset_bounds-stacks-b
-offset_bounds-stacks-b c = let a = c.args in let l = c.loop-i in let t = c.loop-i-test.true in let h : l.i < get_or a.words.now a.at 0 = c.loop-i-test.true in let low = c.requires.by_index l.i h in let small = c.requires.by_index_2 (get_or a.words.now (a.at + 1 + 2 * l.i) 0) in let s = c.if-v-ne0.true in let k = keep-under a.words.now a.exprmap.now a.k a.at a.stacks.now (going a.ends) l.stacks l.seats (going l.e) l.i l.invariant h (get_or a.words.now (a.at + 1 + 2 * l.i) 0) (get_or a.exprmap.now (get_or a.words.now (a.at + 1 + 2 * l.i) 0) 0) (get_or a.words.now (a.at + 1 + 2 * l.i + 1) 0) refl low refl refl s small (get_or l.seats ((get_or a.exprmap.now (get_or a.words.now (a.at + 1 + 2 * l.i) 0) 0) - 1) 0) refl c.if-j-eq0.false in let m = l.invariant.stacks_are.high' in let o = c.if-j-eq0.false in omega arith
+offset_bounds-stacks-b c = let a = c.args in let l = c.loop-i in let t = c.loop-i-test.true in let h : l.i < get_or a.words.now a.at 0 = c.loop-i-test.true in let small = c.requires.by_index_2 (get_or a.words.now (a.at + 1 + 2 * l.i) 0) in let s = c.if-v-ne0.true in let k = keep-under a.words.now a.exprmap.now a.at a.stacks.now (going a.ends) l.stacks l.seats (going l.e) l.i l.invariant h (get_or a.words.now (a.at + 1 + 2 * l.i) 0) (get_or a.exprmap.now (get_or a.words.now (a.at + 1 + 2 * l.i) 0) 0) (get_or a.words.now (a.at + 1 + 2 * l.i + 1) 0) refl refl refl s small (get_or l.seats ((get_or a.exprmap.now (get_or a.words.now (a.at + 1 + 2 * l.i) 0) 0) - 1) 0) refl c.if-j-eq0.false in let m = l.invariant.stacks_are.high' in let o = c.if-j-eq0.false in omega arith
 
 pub bounds-stacks-b : goal.bounds-stacks-b
-bounds-stacks-b c = let a = c.args in let l = c.loop-i in let t = c.loop-i-test.true in let h : l.i < get_or a.words.now a.at 0 = c.loop-i-test.true in let low = c.requires.by_index l.i h in let small = c.requires.by_index_2 (get_or a.words.now (a.at + 1 + 2 * l.i) 0) in let s = c.if-v-ne0.true in let k = keep-under a.words.now a.exprmap.now a.k a.at a.stacks.now (going a.ends) l.stacks l.seats (going l.e) l.i l.invariant h (get_or a.words.now (a.at + 1 + 2 * l.i) 0) (get_or a.exprmap.now (get_or a.words.now (a.at + 1 + 2 * l.i) 0) 0) (get_or a.words.now (a.at + 1 + 2 * l.i + 1) 0) refl low refl refl s small (get_or l.seats ((get_or a.exprmap.now (get_or a.words.now (a.at + 1 + 2 * l.i) 0) 0) - 1) 0) refl c.if-j-eq0.false in let m = l.invariant.stacks_are.high' in let o = c.if-j-eq0.false in omega arith
+bounds-stacks-b c = let a = c.args in let l = c.loop-i in let t = c.loop-i-test.true in let h : l.i < get_or a.words.now a.at 0 = c.loop-i-test.true in let small = c.requires.by_index_2 (get_or a.words.now (a.at + 1 + 2 * l.i) 0) in let s = c.if-v-ne0.true in let k = keep-under a.words.now a.exprmap.now a.at a.stacks.now (going a.ends) l.stacks l.seats (going l.e) l.i l.invariant h (get_or a.words.now (a.at + 1 + 2 * l.i) 0) (get_or a.exprmap.now (get_or a.words.now (a.at + 1 + 2 * l.i) 0) 0) (get_or a.words.now (a.at + 1 + 2 * l.i + 1) 0) refl refl refl s small (get_or l.seats ((get_or a.exprmap.now (get_or a.words.now (a.at + 1 + 2 * l.i) 0) 0) - 1) 0) refl c.if-j-eq0.false in let m = l.invariant.stacks_are.high' in let o = c.if-j-eq0.false in omega arith
 
 pub loop-i-preserved : goal.loop-i-preserved
 loop-i-preserved c =
     elim c.if-v-ne0.branch [
-      | then-v-ne0+then-j-eq0+else-e-gt16382+in_ok-e+in_ok-e-2 w ↦ rw (w.stacks-is, w.seats-is, w.e-is) (let a = c.args in let l = c.loop-i in let t = c.loop-i-test.true in let h : l.i < get_or a.words.now a.at 0 = c.loop-i-test.true in let low = c.requires.by_index l.i h in let small = c.requires.by_index_2 (get_or a.words.now (a.at + 1 + 2 * l.i) 0) in let s = w.if-v-ne0.true in keep-new a.words.now a.exprmap.now a.k a.at a.stacks.now (going a.ends) l.stacks l.seats (going l.e) l.i l.invariant h (get_or a.words.now (a.at + 1 + 2 * l.i) 0) (get_or a.exprmap.now (get_or a.words.now (a.at + 1 + 2 * l.i) 0) 0) (get_or a.words.now (a.at + 1 + 2 * l.i + 1) 0) refl low refl refl s small (get_or l.seats ((get_or a.exprmap.now (get_or a.words.now (a.at + 1 + 2 * l.i) 0) 0) - 1) 0) refl w.if-j-eq0.true w.if-e-gt16382.false _ _ w.in_ok-e.ensures _ _ w.in_ok-e-2.ensures _ refl)
-      | then-v-ne0+else-j-eq0 w ↦ rw (w.stacks-is, w.seats-is, w.e-is) (let a = c.args in let l = c.loop-i in let t = c.loop-i-test.true in let h : l.i < get_or a.words.now a.at 0 = c.loop-i-test.true in let low = c.requires.by_index l.i h in let small = c.requires.by_index_2 (get_or a.words.now (a.at + 1 + 2 * l.i) 0) in let s = w.if-v-ne0.true in keep_there a.words.now a.exprmap.now a.k a.at a.stacks.now (going a.ends) l.stacks l.seats (going l.e) l.i l.invariant h (get_or a.words.now (a.at + 1 + 2 * l.i) 0) (get_or a.exprmap.now (get_or a.words.now (a.at + 1 + 2 * l.i) 0) 0) (get_or a.words.now (a.at + 1 + 2 * l.i + 1) 0) refl low refl refl s small (get_or l.seats ((get_or a.exprmap.now (get_or a.words.now (a.at + 1 + 2 * l.i) 0) 0) - 1) 0) refl w.if-j-eq0.false _ refl)
-      | else-v-ne0 w ↦ rw (w.stacks-is, w.seats-is, w.e-is) (let a = c.args in let l = c.loop-i in let t = c.loop-i-test.true in let h : l.i < get_or a.words.now a.at 0 = c.loop-i-test.true in let low = c.requires.by_index l.i h in let small = c.requires.by_index_2 (get_or a.words.now (a.at + 1 + 2 * l.i) 0) in keep_skip a.words.now a.exprmap.now a.k a.at a.stacks.now (going a.ends) l.stacks l.seats (going l.e) l.i l.invariant h (get_or a.words.now (a.at + 1 + 2 * l.i) 0) (get_or a.exprmap.now (get_or a.words.now (a.at + 1 + 2 * l.i) 0) 0) (get_or a.words.now (a.at + 1 + 2 * l.i + 1) 0) refl low refl refl w.if-v-ne0.false)
+      | then-v-ne0+then-j-eq0+else-e-gt16382+in_ok-e+in_ok-e-2 w ↦ rw (w.stacks-is, w.seats-is, w.e-is) (let a = c.args in let l = c.loop-i in let t = c.loop-i-test.true in let h : l.i < get_or a.words.now a.at 0 = c.loop-i-test.true in let small = c.requires.by_index_2 (get_or a.words.now (a.at + 1 + 2 * l.i) 0) in let s = w.if-v-ne0.true in keep-new a.words.now a.exprmap.now a.at a.stacks.now (going a.ends) l.stacks l.seats (going l.e) l.i l.invariant h (get_or a.words.now (a.at + 1 + 2 * l.i) 0) (get_or a.exprmap.now (get_or a.words.now (a.at + 1 + 2 * l.i) 0) 0) (get_or a.words.now (a.at + 1 + 2 * l.i + 1) 0) refl refl refl s small (get_or l.seats ((get_or a.exprmap.now (get_or a.words.now (a.at + 1 + 2 * l.i) 0) 0) - 1) 0) refl w.if-j-eq0.true w.if-e-gt16382.false _ _ w.in_ok-e.ensures _ _ w.in_ok-e-2.ensures _ refl)
+      | then-v-ne0+else-j-eq0 w ↦ rw (w.stacks-is, w.seats-is, w.e-is) (let a = c.args in let l = c.loop-i in let t = c.loop-i-test.true in let h : l.i < get_or a.words.now a.at 0 = c.loop-i-test.true in let small = c.requires.by_index_2 (get_or a.words.now (a.at + 1 + 2 * l.i) 0) in let s = w.if-v-ne0.true in keep_there a.words.now a.exprmap.now a.at a.stacks.now (going a.ends) l.stacks l.seats (going l.e) l.i l.invariant h (get_or a.words.now (a.at + 1 + 2 * l.i) 0) (get_or a.exprmap.now (get_or a.words.now (a.at + 1 + 2 * l.i) 0) 0) (get_or a.words.now (a.at + 1 + 2 * l.i + 1) 0) refl refl refl s small (get_or l.seats ((get_or a.exprmap.now (get_or a.words.now (a.at + 1 + 2 * l.i) 0) 0) - 1) 0) refl w.if-j-eq0.false _ refl)
+      | else-v-ne0 w ↦ rw (w.stacks-is, w.seats-is, w.e-is) (let a = c.args in let l = c.loop-i in let t = c.loop-i-test.true in let h : l.i < get_or a.words.now a.at 0 = c.loop-i-test.true in let small = c.requires.by_index_2 (get_or a.words.now (a.at + 1 + 2 * l.i) 0) in keep_skip a.words.now a.exprmap.now a.at a.stacks.now (going a.ends) l.stacks l.seats (going l.e) l.i l.invariant h (get_or a.words.now (a.at + 1 + 2 * l.i) 0) (get_or a.exprmap.now (get_or a.words.now (a.at + 1 + 2 * l.i) 0) 0) (get_or a.words.now (a.at + 1 + 2 * l.i + 1) 0) refl refl refl w.if-v-ne0.false)
     ]
 
 pub returns : goal.returns
-returns c = let a = c.args in let l = c.loop-i in let t = c.loop-i-test.false in keep_done a.words.now a.exprmap.now a.k a.at a.stacks.now (going a.ends) l.stacks l.seats (going l.e) l.i l.invariant (omega arith)
+returns c = let a = c.args in let l = c.loop-i in let t = c.loop-i-test.false in keep_done a.words.now a.exprmap.now a.at a.stacks.now (going a.ends) l.stacks l.seats (going l.e) l.i l.invariant (omega arith)

@@ -5,4 +5,4 @@ use Rattle.derive_state.specs.Held.{SameArrays}
 use Rattle.function_outside.proofs.import_outside.Given as goal
 
 abbrev pub invariant-loop-j : goal.invariant-loop-j
-invariant-loop-j l = (Passing l.source.image.words.now l.source.image.tags.now l.source.image.n l.source.offset l.at l.end l.initial.derived.log.now l.initial.derived.logtags.now l.initial.derived.starts.now l.initial.derived.maps.now l.initial.derived.buckets.now (going l.initial.e) l.derived.log.now l.derived.logtags.now l.derived.starts.now l.derived.maps.now l.derived.buckets.now (going l.e) l.j) × SameArrays l.initial.derived l.derived
+invariant-loop-j l = (Passing l.piece.source.image.words.now l.piece.source.image.tags.now l.piece.source.image.n l.piece.source.offset l.piece.at l.piece.end l.initial.derived.log.now l.initial.derived.logtags.now l.initial.derived.starts.now l.initial.derived.maps.now l.initial.derived.buckets.now (going l.initial.e) l.derived.log.now l.derived.logtags.now l.derived.starts.now l.derived.maps.now l.derived.buckets.now (going l.e) l.j) × SameArrays l.initial.derived l.derived

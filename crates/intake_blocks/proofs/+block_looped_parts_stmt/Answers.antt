@@ -8,7 +8,8 @@ use Rattle.intake_blocks.proofs.Inner.{parts-begin, parts_skip, parts_far, parts
 use Rattle.intake_blocks.proofs.Statements.{loop_skip, loop_mid, loop_body, loop_skip₂, loop_wrong, loop_late, loop_continuing, loop_wrong₂, loop_end, stmt_low, emit_asks, stmt_emit, stmt_break, stmt_continue, stmt_switch, stmt_simple, stmt_no_return}
 use borrow.Author.Rules.{rules}
 use mathlib.Core.Path.{◌∙◌}
-use Rattle.intake_blocks.proofs.Answers.{found_is}
+use Rattle.intake_blocks.proofs.Answers.{found_is, here_for}
+use native.Mathlib.Nat.{le_refl}
 use Rattle.intake_blocks.proofs.+block_looped_parts_stmt.Goals as goal
 use Rattle.intake_blocks.proofs.+block_looped_parts_stmt.Goals.{stmt-in_default-via-in-7+else-not-place, stmt-in_default-via-in_default+else-this-lt3}
 use lib.ListN.{get_or}
@@ -40,7 +41,7 @@ pub looped-block-requires : goal.looped-block-requires
 looped-block-requires t c = let m = loop_mid _ _ _ [] [] _ _ _ _ true c.requires.stmt_here c.requires.at_value _ c.skip-continuing.ensures in (search rules, loop_body _ _ _ [] [] _ _ _ _ true c.requires.stmt_here c.requires.at_value _ c.skip-continuing.ensures)
 
 pub looped-returns-in_err-block : goal.looped-returns-in_err-block
-looped-returns-in_err-block t c = rw c.from_residual.ensures (loop_wrong _ _ _ _ _ _ _ _ _ _ c.requires.stmt_here c.requires.at_value _ c.skip-continuing.ensures _ _ c.block.ensures c.in_err-block.was _ _)
+looped-returns-in_err-block t c = rw c.from_residual.ensures (λ keep h. loop_wrong _ _ _ _ _ _ _ _ _ _ (here_for c.requires.stmt_here h) c.requires.at_value _ c.skip-continuing.ensures _ _ c.block.ensures c.in_err-block.was _ _)
 
 pub looped-skip-break_if-requires : goal.looped-skip-break_if-requires
 looped-skip-break_if-requires t c = let zz = loop_skip₂ _ _ _ [] [] _ _ _ _ true c.requires.stmt_here c.requires.at_value _ c.skip-continuing.ensures in record { at_bound = zz.0; steps = zz.1 }
@@ -49,40 +50,40 @@ pub looped-block-requires-2 : goal.looped-block-requires-2
 looped-block-requires-2 t c = let m = loop_mid _ _ _ [] [] _ _ _ _ true c.requires.stmt_here c.requires.at_value _ c.skip-continuing.ensures in let n = loop_late _ _ _ _ _ _ _ _ _ _ c.requires.stmt_here c.requires.at_value _ c.skip-continuing.ensures _ _ c.block.ensures _ c.in_ok-block.was _ c.skip-break_if.ensures in (search rules, loop_continuing _ _ _ _ _ _ _ _ _ _ c.requires.stmt_here c.requires.at_value _ c.skip-continuing.ensures _ _ c.block.ensures _ c.in_ok-block.was _ c.skip-break_if.ensures)
 
 pub looped-returns-in_err-block-2 : goal.looped-returns-in_err-block-2
-looped-returns-in_err-block-2 t c = rw c.from_residual-in_err-block-2.ensures (loop_wrong₂ _ _ _ _ _ _ _ _ _ _ c.requires.stmt_here c.requires.at_value _ c.skip-continuing.ensures _ _ c.block.ensures _ c.in_ok-block.was _ c.skip-break_if.ensures _ _ c.block-2.ensures c.in_err-block-2.was _ _)
+looped-returns-in_err-block-2 t c = rw c.from_residual-in_err-block-2.ensures (λ keep h. loop_wrong₂ _ _ _ _ _ _ _ _ _ _ (here_for c.requires.stmt_here h) c.requires.at_value _ c.skip-continuing.ensures _ _ c.block.ensures _ c.in_ok-block.was _ c.skip-break_if.ensures _ _ c.block-2.ensures c.in_err-block-2.was _ _)
 
 pub looped-read-requires : goal.looped-read-requires
-looped-read-requires t c = let n = loop_late _ _ _ _ _ _ _ _ _ _ c.requires.stmt_here c.requires.at_value _ c.skip-continuing.ensures _ _ c.block.ensures _ c.in_ok-block.was _ c.skip-break_if.ensures in let h = c.requires.stmt_here.holds.within in record { placed = c.requires.stmt_here.exprs.placed; j_bound = search rules }
+looped-read-requires t c = let n = loop_late _ _ _ _ _ _ _ _ _ _ c.requires.stmt_here c.requires.at_value _ c.skip-continuing.ensures _ _ c.block.ensures _ c.in_ok-block.was _ c.skip-break_if.ensures in let h = c.requires.stmt_here.holds.within in search rules
 
 pub looped-returns : goal.looped-returns
-looped-returns t c = loop_end _ _ _ _ _ _ _ _ _ _ c.requires.stmt_here c.requires.at_value _ c.skip-continuing.ensures _ _ c.block.ensures _ c.in_ok-block.was _ c.skip-break_if.ensures _ _ c.block-2.ensures _ c.in_ok-block-2.was _ c.read.ensures _ (c.then_some.ensures ∙ found_is _) _ _
+looped-returns t c = λ keep h. loop_end _ _ _ _ _ _ _ _ _ _ (here_for c.requires.stmt_here h) c.requires.at_value _ c.skip-continuing.ensures _ _ c.block.ensures _ c.in_ok-block.was _ c.skip-break_if.ensures _ _ c.block-2.ensures _ c.in_ok-block-2.was _ c.read.ensures _ (c.then_some.ensures ∙ found_is _) _ _
 
 pub parts-loop-i-init : goal.parts-loop-i-init
-parts-loop-i-init t c = parts-begin _ _ _ _ _ _ _ _ _ _ c.requires.stmt_here c.requires.nonzero.0 c.requires.nonzero.1 c.requires.breaks_value
+parts-loop-i-init t c = λ keep h. parts-begin _ _ _ _ _ _ _ _ _ _ (here_for c.requires.stmt_here h) c.requires.nonzero.0 c.requires.nonzero.1 c.requires.breaks_value
 
 pub parts-skip-fin-requires : goal.parts-skip-fin-requires
-parts-skip-fin-requires t c = let zz = parts_skip _ _ _ _ _ _ _ _ _ _ c.requires.stmt_here _ _ _ c.loop-i.invariant c.loop-i-test.true c.if-expressions-i-eq-BLOCK.true in record { at_bound = zz.0; steps = zz.1 }
+parts-skip-fin-requires t c = let zz = parts_skip _ _ _ _ _ _ _ _ _ _ c.requires.stmt_here _ _ _ (c.loop-i.invariant _ (le_refl _)) c.loop-i-test.true c.if-expressions-i-eq-BLOCK.true in record { at_bound = zz.0; steps = zz.1 }
 
 pub parts-block-requires : goal.parts-block-requires
-parts-block-requires t c = let f = parts_far _ _ _ _ _ _ _ _ _ _ c.requires.stmt_here _ _ _ c.loop-i.invariant c.loop-i-test.true c.if-expressions-i-eq-BLOCK.true _ c.skip-fin.ensures in let o = parts-on _ _ _ _ _ _ _ _ _ _ c.requires.stmt_here _ _ _ c.loop-i.invariant c.loop-i-test.true c.if-expressions-i-eq-BLOCK.true _ c.skip-fin.ensures in let p = c.loop-i.invariant.past in (search rules, parts_block _ _ _ _ _ _ _ _ _ _ c.requires.stmt_here _ _ _ c.loop-i.invariant c.loop-i-test.true c.if-expressions-i-eq-BLOCK.true _ c.skip-fin.ensures)
+parts-block-requires t c = let f = parts_far _ _ _ _ _ _ _ _ _ _ c.requires.stmt_here _ _ _ (c.loop-i.invariant _ (le_refl _)) c.loop-i-test.true c.if-expressions-i-eq-BLOCK.true _ c.skip-fin.ensures in let o = parts-on _ _ _ _ _ _ _ _ _ _ c.requires.stmt_here _ _ _ (c.loop-i.invariant _ (le_refl _)) c.loop-i-test.true c.if-expressions-i-eq-BLOCK.true _ c.skip-fin.ensures in let p = (c.loop-i.invariant _ (le_refl _)).past in (search rules, parts_block _ _ _ _ _ _ _ _ _ _ c.requires.stmt_here _ _ _ (c.loop-i.invariant _ (le_refl _)) c.loop-i-test.true c.if-expressions-i-eq-BLOCK.true _ c.skip-fin.ensures)
 
 pub parts-returns-in_err-block : goal.parts-returns-in_err-block
-parts-returns-in_err-block t c = rw c.from_residual.ensures (parts_wrong _ _ _ _ _ _ _ _ _ _ c.requires.stmt_here _ _ _ c.loop-i.invariant c.loop-i-test.true c.if-expressions-i-eq-BLOCK.true _ c.skip-fin.ensures _ _ c.block.ensures c.in_err-block.was)
+parts-returns-in_err-block t c = rw c.from_residual.ensures (λ keep h. parts_wrong _ _ _ _ _ _ _ _ _ _ (here_for c.requires.stmt_here h) _ _ _ (c.loop-i.invariant keep h) c.loop-i-test.true c.if-expressions-i-eq-BLOCK.true _ c.skip-fin.ensures _ _ c.block.ensures c.in_err-block.was)
 
 pub parts-loop-i-smaller-then-expressions-i-eq-BLOCK : goal.parts-loop-i-smaller-then-expressions-i-eq-BLOCK
-parts-loop-i-smaller-then-expressions-i-eq-BLOCK t c = let f = parts_far _ _ _ _ _ _ _ _ _ _ c.requires.stmt_here _ _ _ c.loop-i.invariant c.loop-i-test.true c.if-expressions-i-eq-BLOCK.true _ c.skip-fin.ensures in let o = parts-on _ _ _ _ _ _ _ _ _ _ c.requires.stmt_here _ _ _ c.loop-i.invariant c.loop-i-test.true c.if-expressions-i-eq-BLOCK.true _ c.skip-fin.ensures in let l = c.loop-i-test.true in search rules
+parts-loop-i-smaller-then-expressions-i-eq-BLOCK t c = let f = parts_far _ _ _ _ _ _ _ _ _ _ c.requires.stmt_here _ _ _ (c.loop-i.invariant _ (le_refl _)) c.loop-i-test.true c.if-expressions-i-eq-BLOCK.true _ c.skip-fin.ensures in let o = parts-on _ _ _ _ _ _ _ _ _ _ c.requires.stmt_here _ _ _ (c.loop-i.invariant _ (le_refl _)) c.loop-i-test.true c.if-expressions-i-eq-BLOCK.true _ c.skip-fin.ensures in let l = c.loop-i-test.true in search rules
 
 pub parts-loop-i-preserved-then-expressions-i-eq-BLOCK : goal.parts-loop-i-preserved-then-expressions-i-eq-BLOCK
-parts-loop-i-preserved-then-expressions-i-eq-BLOCK t c = parts_next _ _ _ _ _ _ _ _ _ _ c.requires.stmt_here _ _ _ c.loop-i.invariant c.loop-i-test.true c.if-expressions-i-eq-BLOCK.true _ c.skip-fin.ensures _ _ c.block.ensures _ c.in_ok-block.was _ c.then-flow.ensures
+parts-loop-i-preserved-then-expressions-i-eq-BLOCK t c = λ keep h. parts_next _ _ _ _ _ _ _ _ _ _ (here_for c.requires.stmt_here h) _ _ _ (c.loop-i.invariant keep h) c.loop-i-test.true c.if-expressions-i-eq-BLOCK.true _ c.skip-fin.ensures _ _ c.block.ensures _ c.in_ok-block.was _ c.then-flow.ensures
 
 pub parts-returns-else-read : goal.parts-returns-else-read
-parts-returns-else-read t c = word_wrong _ _ _ _ _ _ _ _ _ _ c.requires.stmt_here _ _ _ c.loop-i.invariant c.loop-i-test.true c.if-expressions-i-eq-BLOCK.false _ c.read.ensures c.if-read.false
+parts-returns-else-read t c = λ keep h. word_wrong _ _ _ _ _ _ _ _ _ _ (here_for c.requires.stmt_here h) _ _ _ (c.loop-i.invariant keep h) c.loop-i-test.true c.if-expressions-i-eq-BLOCK.false _ c.read.ensures c.if-read.false
 
 pub parts-loop-i-preserved : goal.parts-loop-i-preserved
-parts-loop-i-preserved t c = word_next _ _ _ _ _ _ _ _ _ _ c.requires.stmt_here _ _ _ c.loop-i.invariant c.loop-i-test.true c.if-expressions-i-eq-BLOCK.false _ c.read.ensures c.if-read.true
+parts-loop-i-preserved t c = λ keep h. word_next _ _ _ _ _ _ _ _ _ _ (here_for c.requires.stmt_here h) _ _ _ (c.loop-i.invariant keep h) c.loop-i-test.true c.if-expressions-i-eq-BLOCK.false _ c.read.ensures c.if-read.true
 
 pub parts-returns : goal.parts-returns
-parts-returns t c = parts_done _ _ _ _ _ _ _ _ _ _ c.requires.stmt_here _ _ _ c.loop-i.invariant c.loop-i-test.false
+parts-returns t c = λ keep h. parts_done _ _ _ _ _ _ _ _ _ _ (here_for c.requires.stmt_here h) _ _ _ (c.loop-i.invariant keep h) c.loop-i-test.false
 
 pub stmt-bounds-expressions-at : goal.stmt-bounds-expressions-at
 stmt-bounds-expressions-at t c = let h = stmt_low _ _ _ [] [] _ _ _ _ c.requires in let w = c.requires.holds.within in search rules
@@ -97,7 +98,7 @@ pub stmt-returns-in-0 : goal.stmt-returns-in-0
 stmt-returns-in-0 t c = stmt_emit _ _ _ _ _ _ _ _ _ c.requires c.in-0.is _ _ _ c.emit.ensures _ (c.then_some.ensures ∙ found_is _)
 
 pub stmt-returns-in-3 : goal.stmt-returns-in-3
-stmt-returns-in-3 t c = stmt_switch _ _ _ _ _ _ _ _ _ c.requires c.in-3.is _ _ _ _ _ c.parts.ensures
+stmt-returns-in-3 t c = stmt_switch _ _ _ _ _ _ _ _ _ c.requires c.in-3.is _ _ _ _ _ (c.parts.ensures _ c.requires.keeps)
 
 pub stmt-returns-in-5 : goal.stmt-returns-in-5
 stmt-returns-in-5 t c = stmt_break _ _ _ _ _ _ _ _ _ c.requires c.in-5.is _ _ _ _ (c.then_some-in-5.ensures ∙ found_is _)

@@ -1,5 +1,5 @@
 -- `intake_blocks::+block_looped_parts_stmt` meets its contract.
-use Prim.Native.Nat.{◌*◌, ◌+◌, ◌-◌}
+use Prim.Native.Nat.{ℕ, ◌*◌, ◌+◌, ◌-◌, ◌≤◌}
 use Rattle.intake_blocks.specs.Found.{place_of}
 use Rattle.intake_blocks.proofs.Blocks.{Walking}
 use Rattle.intake_blocks.proofs.Inner.{Passing}
@@ -24,7 +24,7 @@ abbrev pub decreases-block-loop-i : goal.decreases-block-loop-i
 decreases-block-loop-i l = l.fin - l.i
 
 abbrev pub invariant-parts-loop-i : goal.invariant-parts-loop-i
-invariant-parts-loop-i l = Passing l.expressions.image.words.now l.expressions.image.tags.now l.expressions.starts.now l.expressions.initial.now l.initial.until l.expressions.count l.at l.stop l.keep (place_of l.place.breaks l.place.continues l.place.returns) l.until l.i l.flow
+invariant-parts-loop-i l = (keep : ℕ) → l.stop ≤ keep → Passing l.expressions.image.words.now l.expressions.image.tags.now l.expressions.starts.now l.expressions.initial.now l.initial.until l.expressions.count l.at l.stop keep (place_of l.place.breaks l.place.continues l.place.returns) l.until l.i l.flow
 
 abbrev pub decreases-parts-loop-i : goal.decreases-parts-loop-i
 decreases-parts-loop-i l = l.stop - l.i

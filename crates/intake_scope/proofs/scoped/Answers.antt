@@ -1,13 +1,9 @@
 -- `intake_scope::scoped` meets its contract: the pass over the body has what it requires, and its answer is the model's.
 use Rattle.intake_initialisers.proofs.Visiting.{found_numbers}
-use Rattle.intake_initialisers.proofs.Reaching.{init-count, init-room, init_few}
-use Rattle.intake_initialisers.specs.Marks.{inits, Room, Visits}
-use Rattle.intake_scope.proofs.Whole.{known-listed, known_low, known_ends, known_few, known_reach, known-named, known-body, known-scoped}
-use mathlib.Core.Path.{refl, sym, ap, subst, ◌∙◌}
+use Rattle.intake_initialisers.proofs.Reaching.{init-count, init_few}
+use Rattle.intake_scope.proofs.Whole.{known-listed, known_low, known_ends, known_few, known_reach, known-laid, known-named, known-body, known-scoped}
+use mathlib.Core.Path.{refl}
 use native.Mathlib.Omega.{arith}
-use Prim.Native.Nat.{◌+◌}
-use lib.ListN.{length, get_or, drop}
-use Rattle.intake_scope.specs.Functions.{Lent}
 use borrow.Author.Rules.{rules}
 use Rattle.intake_scope.proofs.scoped.Goals as goal
 
@@ -35,31 +31,23 @@ overflow_add-locals c = let h = known_low _ _ _ _ _ c.requires in search rules
 pub roots-requires-clause-locals_bound : goal.roots-requires-clause-locals_bound
 roots-requires-clause-locals_bound c = init-count _ _ _ _ _ (known-listed _ _ _ _ _ c.requires) _ _ refl refl
 
-pub roots-requires-clause-room : goal.roots-requires-clause-room
-roots-requires-clause-room c = subst Room (sym c.begin.ensures.begun) (init-room _ _ _ _ _ (known-listed _ _ _ _ _ c.requires) _ _ refl refl _ (ap (λ v. length v.list) (sym c.begin.ensures.begun) ∙ c.begin.ensures.list_len))
+pub roots-requires-clause-few : goal.roots-requires-clause-few
+roots-requires-clause-few c = let h = known_few _ _ _ _ _ c.requires _ _ refl refl in omega (arith, h, c.begin.ensures.count_is)
 
 pub reach-requires : goal.reach-requires
-reach-requires c =
-    let lent : Lent c.args.scratch.now.starts c.args.scratch.now.visited.list c.args.scratch.now.until = record { starts_long = omega arith; list_long = ap (λ v. length v.list) (sym c.begin.ensures.begun) ∙ c.begin.ensures.list_len; until_long = omega arith } in
-    let visits = subst (λ v. Visits (inits (get_or c.args.image.words.now c.args.locals 0) (drop (c.args.locals + 1) c.args.image.words.now)) v c.roots.new.self) c.begin.ensures.begun c.roots.ensures in
-    known_reach _ _ _ _ _ c.requires _ _ refl refl _ _ _ lent _ (found_numbers c.places.ensures) _ visits
+reach-requires c = known_reach _ _ _ _ _ c.requires _ _ refl refl c.args.scratch.now.starts (omega arith) _ (found_numbers c.places.ensures) _ c.begin.ensures _ c.roots.ensures
 
 pub bounds-scratch-e : goal.bounds-scratch-e
 bounds-scratch-e c = let h = known_few _ _ _ _ _ c.requires _ _ refl refl in search rules
 
 pub bounds-image-named : goal.bounds-image-named
-bounds-image-named c =
-    let lent : Lent c.args.scratch.now.starts c.args.scratch.now.visited.list c.args.scratch.now.until = record { starts_long = omega arith; list_long = ap (λ v. length v.list) (sym c.begin.ensures.begun) ∙ c.begin.ensures.list_len; until_long = omega arith } in
-    known-named _ _ _ _ _ c.requires _ _ refl refl _ _ _ lent _ (found_numbers c.places.ensures) _ refl
+bounds-image-named c = known-named _ _ _ _ _ c.requires _ _ refl refl c.args.scratch.now.starts (omega arith) _ (found_numbers c.places.ensures) _ refl
+
+pub invariant_of-expressions : goal.invariant_of-expressions
+invariant_of-expressions c = record { placed = (known-laid _ _ _ _ _ c.requires _ _ refl refl c.args.scratch.now.starts (omega arith) _ (found_numbers c.places.ensures)).placed }
 
 pub body-requires : goal.body-requires
-body-requires c =
-    let lent : Lent c.args.scratch.now.starts c.args.scratch.now.visited.list c.args.scratch.now.until = record { starts_long = omega arith; list_long = ap (λ v. length v.list) (sym c.begin.ensures.begun) ∙ c.begin.ensures.list_len; until_long = omega arith } in
-    let visits = subst (λ v. Visits (inits (get_or c.args.image.words.now c.args.locals 0) (drop (c.args.locals + 1) c.args.image.words.now)) v c.roots.new.self) c.begin.ensures.begun c.roots.ensures in
-    record { block_here = known-body _ _ _ _ _ c.requires _ _ refl refl _ _ _ lent _ (found_numbers c.places.ensures) _ visits _ refl _ refl }
+body-requires c = record { block_here = known-body _ _ _ _ _ c.requires _ _ refl refl c.args.scratch.now.starts (omega arith) _ (found_numbers c.places.ensures) _ c.begin.ensures _ c.roots.ensures _ refl _ refl }
 
 pub returns : goal.returns
-returns c =
-    let lent : Lent c.args.scratch.now.starts c.args.scratch.now.visited.list c.args.scratch.now.until = record { starts_long = omega arith; list_long = ap (λ v. length v.list) (sym c.begin.ensures.begun) ∙ c.begin.ensures.list_len; until_long = omega arith } in
-    let visits = subst (λ v. Visits (inits (get_or c.args.image.words.now c.args.locals 0) (drop (c.args.locals + 1) c.args.image.words.now)) v c.roots.new.self) c.begin.ensures.begun c.roots.ensures in
-    known-scoped _ _ _ _ _ c.requires _ _ refl refl _ _ _ lent _ (found_numbers c.places.ensures) _ visits _ refl _ refl _ _ c.reach.ensures _ c.body.ensures
+returns c = known-scoped _ _ _ _ _ c.requires _ _ refl refl c.args.scratch.now.starts (omega arith) _ (found_numbers c.places.ensures) _ c.begin.ensures _ c.roots.ensures _ refl _ refl _ _ c.reach.ensures _ c.body.ensures

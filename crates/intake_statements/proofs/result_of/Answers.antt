@@ -1,18 +1,24 @@
-use Rattle.intake_statements.proofs.Leaves.{look-begin, look_result, look-optional, look-next, look_done}
-use borrow.Author.Rules.{rules}
+use mathlib.Core.Path.{◌∙◌}
+use Rattle.std.proofs.Common.{rules, Some, None}
+use borrow.Author.Tests.{tests}
+use Rattle.std.proofs.lemmas.Iterator.{first_from_Range}
+use Rattle.intake_statements.proofs.Leaves.{Says, Silent, looked_none, looked_result, looked_optional}
 use Rattle.intake_statements.proofs.result_of.Goals as goal
 
-pub loop-j-init : goal.loop-j-init
-loop-j-init c = search (look-begin, rules)
+pub returns-in_err-j : goal.returns-in_err-j
+returns-in_err-j c =
+    let a = c.args in
+    let none = first_from_Range _ _ _ None (Says a.image.tags.now) (Silent a.image.tags.now) c.in_err-j.ensures.ran (λ x q k. search (rules, tests)) (λ x q k. search (rules, tests)) in
+    c.from_residual.ensures ∙ looked_none a.image.words.now a.image.tags.now a.from a.to none
 
 pub returns-in-99 : goal.returns-in-99
-returns-in-99 c = search (look_result, rules)
+returns-in-99 c =
+    let a = c.args in
+    let first = first_from_Range _ _ _ (Some c.in_ok-j.j) (Says a.image.tags.now) (Silent a.image.tags.now) c.in_ok-j.ensures.ran (λ x q k. search (rules, tests)) (λ x q k. search (rules, tests)) in
+    looked_result a.image.words.now a.image.tags.now a.from a.to c.in_ok-j.j first c.in-99.is
 
-pub returns-in-100 : goal.returns-in-100
-returns-in-100 c = search (look-optional, rules)
-
-pub loop-j-preserved : goal.loop-j-preserved
-loop-j-preserved c = search (look-next, rules)
-
-pub returns : goal.returns
-returns c = search (look_done, rules)
+pub returns-in_default : goal.returns-in_default
+returns-in_default c =
+    let a = c.args in
+    let first = first_from_Range _ _ _ (Some c.in_ok-j.j) (Says a.image.tags.now) (Silent a.image.tags.now) c.in_ok-j.ensures.ran (λ x q k. search (rules, tests)) (λ x q k. search (rules, tests)) in
+    looked_optional a.image.words.now a.image.tags.now a.from a.to c.in_ok-j.j first (λ e. search rules) _ c.checked_sub.ensures

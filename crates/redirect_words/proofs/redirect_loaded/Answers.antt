@@ -9,7 +9,7 @@ returns-in_err-both c =
     rw (p.1, p.2) (stays_stored c.args.image.now c.args.words.now c.args.tags.now c.args.n c.args.request.original c.args.request.replacement c.args.request.omit.now c.requires.tape c.requires.image_len _ c.redirect_words.new.words c.in_err-both.ensures _ refl)
 
 pub store-requires : goal.store-requires
-store-requires c = let zz = store_asks c.args.image.now c.args.words.now c.args.tags.now c.args.n c.args.request.original c.args.request.replacement c.args.request.omit.now c.requires.tape c.requires.image_len _ c.redirect_words.new.words c.in_ok-both.ensures in record { n_in_bounds = zz.0; n_in_bounds_2 = zz.1 }
+store-requires c = store_asks c.args.image.now c.args.words.now c.args.tags.now c.args.n c.args.request.original c.args.request.replacement c.args.request.omit.now c.requires.tape c.requires.image_len _ c.redirect_words.new.words c.in_ok-both.ensures
 
 pub returns : goal.returns
 returns c = turned_stored c.args.image.now c.args.words.now c.args.tags.now c.args.n c.args.request.original c.args.request.replacement c.args.request.omit.now c.requires.tape c.requires.image_len _ c.redirect_words.new.words c.in_ok-both.ensures _ refl c.store.new.bytes c.store.ensures

@@ -1,21 +1,17 @@
 -- `intake_layout::section::records` meets its contract.
-use Rattle.std.proofs.Common.{rules, ◌≡◌, Err}
-use Rattle.intake_fields.specs.declared.Misread.TheVariants.{Strange}
-use Rattle.intake_layout.proofs.Extents.{records-begin, records_bad, records_fits, records_strange, records-short, records-odd, records_done}
+use Rattle.std.proofs.Common.{rules}
+use Rattle.intake_fields.proofs.Walk.{exit}
+use Rattle.intake_layout.proofs.Extents.{records-begin, records_bad, records_next, records-short, records-odd, records_done}
 use Rattle.intake_layout.proofs.section.records.Goals as goal
-use Rattle.intake_layout.proofs.section.records.Goals.{in-Ok, in-Err-Strange}
 
 pub loop-j-init : goal.loop-j-init
 loop-j-init c = search (records-begin, rules)
 
 pub loop-j-preserved : goal.loop-j-preserved
-loop-j-preserved c = elim c.match-record.branch [
-  | in-Ok w ↦ rw w.odd-is (search (records_fits, rules))
-  | in-Err-Strange w ↦ let e : c.record.result ≡ Err Strange = cc in rw w.odd-is (search (records_strange, rules))
-]
+loop-j-preserved c = let w = c.in_ok-odd.ensures in search (records_next, rules)
 
-pub returns-in-Err-Misfit : goal.returns-in-Err-Misfit
-returns-in-Err-Misfit c = search (records_bad, rules)
+pub returns-in_err-odd : goal.returns-in_err-odd
+returns-in_err-odd c = let w = c.in_err-odd.ensures in rw (exit _ c.in_err-odd.field-0.0 c.from_residual.ensures.1) (search (records_bad, rules))
 
 pub returns-then-at-stop : goal.returns-then-at-stop
 returns-then-at-stop c = search (records-short, rules)

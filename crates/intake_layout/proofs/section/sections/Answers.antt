@@ -1,9 +1,8 @@
 -- `intake_layout::section::sections` meets its contract.
 use Rattle.std.proofs.Common.{rules, arith, refl, ◌∙◌}
 use Rattle.intake_fields.proofs.Walk.{exit}
-use Rattle.intake_layout.proofs.Sections.{sections-begin, sections_forth, sections-within, sections-total, sections-row, sections_bad, sections_fits, sections_strange, last_forth, last_err, last-odd, last_fits}
+use Rattle.intake_layout.proofs.Sections.{sections-begin, sections_forth, sections-within, sections-total, sections-row, sections_bad, sections_next, last_forth, last_err, last-odd, last_fits}
 use Rattle.intake_layout.proofs.section.sections.Goals as goal
-use Rattle.intake_layout.proofs.section.sections.Goals.{in-Ok, in-Err-Strange}
 
 pub loop-j-init : goal.loop-j-init
 loop-j-init c = search (sections-begin, rules)
@@ -21,19 +20,16 @@ pub section-requires-clause-pc_bound : goal.section-requires-clause-pc_bound
 section-requires-clause-pc_bound c = sections-row c.args.words.now c.args.tags.now c.args.total c.requires.le_total c.requires.total_in_bounds c.requires.words_value c.loop-j.j c.loop-j-test.true _ _ refl refl _ (c.from-pc.ensures ∙ c.entry.ensures)
 
 pub loop-j-preserved : goal.loop-j-preserved
-loop-j-preserved c = elim c.match-section.branch [
-  | in-Ok w ↦ rw w.odd-is (search (sections_fits, rules))
-  | in-Err-Strange w ↦ rw w.odd-is (search (sections_strange, rules))
-]
+loop-j-preserved c = let w = c.in_ok-odd.ensures in search (sections_next, rules)
 
-pub returns-in-Err-Misfit : goal.returns-in-Err-Misfit
-returns-in-Err-Misfit c = search (sections_bad, rules)
+pub returns-in_err-odd : goal.returns-in_err-odd
+returns-in_err-odd c = let w = c.in_err-odd.ensures in rw (exit _ c.in_err-odd.field-0.0 c.from_residual.ensures.1) (search (sections_bad, rules))
 
 pub special-requires-clause-base_le_stop : goal.special-requires-clause-base_le_stop
 special-requires-clause-base_le_stop c = search (last_forth, rules)
 
 pub returns-in_err-special : goal.returns-in_err-special
-returns-in_err-special c = let w = c.in_err-special.was in rw (exit _ c.in_err-special.field-0.0 c.from_residual.ensures.1) (search (last_err, rules))
+returns-in_err-special c = let w = c.in_err-special.was in rw (exit _ c.in_err-special.field-0.0 c.from_residual-in_err-special.ensures.1) (search (last_err, rules))
 
 pub returns-then-odd : goal.returns-then-odd
 returns-then-odd c = let w = c.in_ok-special.was in search (last-odd, rules)
