@@ -9,7 +9,7 @@ use base_refusals::Refusal;
 use derive_state::{Derived, Special};
 
 // Writes the derived module as bytes, with the entry points that the arrays hold, and answers how many they are; refused, the output is as it was. Its words
-// are put together in `out`, which may hold anything before and holds anything after.
+// are put together in `out`, which may hold anything before and holds anything after. The length of `special` is a clause, as in derive_image.
 pub fn finish(
     derived: &Derived,
     special: &Special,

@@ -31,6 +31,7 @@ fn choose(row: &[u32; 512], order: &[u32]) -> [u32; 512]
 }
 
 // Writes the image as words, and answers how many they are; or none, and nothing is written, where they are too many.
+// That `special` has 1,027 words is a clause here and in `finish`: of a type with a model a caller's proof sees the value, and not the invariant that says it.
 pub fn finish_words(derived: &Derived, special: &Special, out: &mut [u32; 16384]) -> Option<usize>
     requires valid_tables { ValidTables derived.now.log.now derived.now.logtags.now derived.now.starts.now derived.now.sizes.counts }
     requires pairs_bound { (derived.now.sizes.pairs ≤ 512) × (length special.now ≡ 1027) × (length out.old ≡ 16384) }

@@ -3,7 +3,7 @@
 // the place of an earlier one.
 #![tactic(auto)]
 
-ghost use Rattle.std.specs.Prelude.{◌≡◌, true, map, suc, ◌+◌, ◌≤◌, ◌<◌, length, get_or, take};
+ghost use Rattle.std.specs.Prelude.{◌≡◌, true, map, suc, ◌+◌, ◌≤◌, ◌<◌, length, get_or, take, unwrap_or};
 ghost use Rattle.model.specs.Module.{count_at};
 ghost use Rattle.model.specs.Names.{named};
 ghost use Rattle.model.specs.Between.{between};
@@ -42,16 +42,13 @@ fn equals_name(source: ShaderRecord, derived: &Derived, s: usize) -> bool
     true
 }
 
-// The first of the n names that equals the source's; or n. A number and no Option: what `known` tells is by its definition the last function that has this number for
-// its name, also where the number is n, and that no function has n is more than `known` requires.
-fn find_name(source: ShaderRecord, derived: &Derived) -> usize
+// The first name that equals the source's.
+fn find_name(source: ShaderRecord, derived: &Derived) -> Option<usize>
     requires { Names derived.now.log.now derived.now.logtags.now (row derived.now.starts.now 0) (get_or derived.now.sizes.counts 0 0) }
-    ensures { (result ≡ index_of (recs_at derived.now.log.now derived.now.logtags.now (take (get_or derived.now.sizes.counts 0 0) (row derived.now.starts.now 0))) (between source.entry.image.tags.now source.entry.image.words.now source.entry.at source.entry.end)) × (result ≤ 512) }
+    ensures { (unwrap_or result (get_or derived.now.sizes.counts 0 0) ≡ index_of (recs_at derived.now.log.now derived.now.logtags.now (take (get_or derived.now.sizes.counts 0 0) (row derived.now.starts.now 0))) (between source.entry.image.tags.now source.entry.image.words.now source.entry.at source.entry.end)) × (unwrap_or result (get_or derived.now.sizes.counts 0 0) ≤ 512) }
 {
     let n = derived.sizes.counts[NAMES] as usize;
-    (0..n)
-        .find(|j| equals_name(source, derived, derived.starts[NAMES][*j] as usize))
-        .unwrap_or(n)
+    (0..n).find(|j| equals_name(source, derived, derived.starts[NAMES][*j] as usize))
 }
 
 // Whether name m - 1 equals the source's.
@@ -65,12 +62,12 @@ fn is_mapped_name(source: ShaderRecord, derived: &Derived, m: usize) -> bool
 }
 
 // The same as `find_name`, but name m - 1 is tried first.
-fn find_name_from(source: ShaderRecord, derived: &Derived, m: usize) -> usize
+fn find_name_from(source: ShaderRecord, derived: &Derived, m: usize) -> Option<usize>
     requires { Names derived.now.log.now derived.now.logtags.now (row derived.now.starts.now 0) (get_or derived.now.sizes.counts 0 0) }
-    ensures { (result ≡ index_of (recs_at derived.now.log.now derived.now.logtags.now (take (get_or derived.now.sizes.counts 0 0) (row derived.now.starts.now 0))) (between source.entry.image.tags.now source.entry.image.words.now source.entry.at source.entry.end)) × (result ≤ 512) }
+    ensures { (unwrap_or result (get_or derived.now.sizes.counts 0 0) ≡ index_of (recs_at derived.now.log.now derived.now.logtags.now (take (get_or derived.now.sizes.counts 0 0) (row derived.now.starts.now 0))) (between source.entry.image.tags.now source.entry.image.words.now source.entry.at source.entry.end)) × (unwrap_or result (get_or derived.now.sizes.counts 0 0) ≤ 512) }
 {
     if is_mapped_name(source, derived, m) {
-        return m - 1;
+        return Some(m - 1);
     }
     find_name(source, derived)
 }
@@ -87,7 +84,8 @@ fn last(derived: &Derived, w: u32) -> Option<u32>
         .map(|k| k as u32)
 }
 
-// The last derived function that has the name of the source's function f.
+// The last derived function that has the name of the source's function f. Where none of the derived names equals it, the number after
+// the last stands for its name, as in the definition.
 pub fn known(image: Image, derived: &Derived, f: usize) -> Option<u32>
     requires source { Source image.words.now image.tags.now image.n }
     requires n_value { named (mod_of image.words.now image.n) ≡ true }
@@ -99,6 +97,7 @@ pub fn known(image: Image, derived: &Derived, f: usize) -> Option<u32>
     let k = image.words[s] as usize - 1;
     let (at, end) = image.record(NAMES, k);
     let m = derived.maps[NAMES][k] as usize;
-    let d = find_name_from(ShaderRecord { image, at, end }, derived, m);
+    let n = derived.sizes.counts[NAMES] as usize;
+    let d = find_name_from(ShaderRecord { image, at, end }, derived, m).unwrap_or(n);
     last(derived, (d + 1) as u32)
 }

@@ -44,6 +44,7 @@ pub fn keep_names(
         if v != 0 {
             let j = seats[v - 1] as usize;
             if j == 0 {
+                // Tested before the two pushes, since a push that is refused promises nothing of the stacks, and this does.
                 if e.bodytop > 16382 {
                     return Err(Full);
                 }

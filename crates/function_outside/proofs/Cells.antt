@@ -1,5 +1,5 @@
 -- One cell of a function: what its class may refer to, what it imports, and that its number is in range. Classes below EXPR refer to tables and functions, those from there on to the function's own expressions.
-use mathlib.Core.Path.{◌≡◌, refl, sym, ap, subst, ◌∙◌}
+use mathlib.Core.Path.{◌≡◌, refl, sym, subst, ◌∙◌}
 use mathlib.Core.Bool.{Bool, true, false}
 use mathlib.Core.List.{List, [], ◌∷◌}
 use Rattle.std.specs.Prelude.{Option, None, Some}

@@ -10,12 +10,14 @@ ghost use Rattle.derive_state.specs.Source.{mod_of, src_of};
 ghost use Rattle.derive_state.specs.Held.{cell, Valid, Imports};
 ghost use Rattle.function_references.specs.Fits.{Ground, record_of};
 
+use base_views::EXPRESSIONS;
 use derive_imports::{Reference, import};
 pub use derive_imports::{Referent, referent_of};
 use derive_state::{DerivedMut, Full, ShaderSource, Sizes};
 use function_references::Piece;
 
-// Imports a record. Whether it is mapped is tested here, and not in `import` alone: this is called for every word, and most records are mapped.
+// Imports a record; nothing where there is no such table. Whether it is mapped is tested here, and not in `import` alone: this is called for every word, and most
+// records are mapped.
 pub fn import_record(
     source: ShaderSource,
     derived: &mut DerivedMut,
@@ -23,11 +25,11 @@ pub fn import_record(
     r: Reference,
 ) -> Result<Sizes, Full>
     requires ground { Ground source.image.words.now source.image.tags.now source.image.n }
-    requires r_bound { (r.table < 6) × (r.number < count_at r.table source.image.words.now) }
+    requires r_bound { r.table < 6 → r.number < count_at r.table source.image.words.now }
     requires valid_arrays { Valid derived.old ends }
     ensures { Imports source.entry.image.words.now (record_of source.entry.offset (src_of source.entry.image.words.now source.entry.image.n) r.table r.number) derived.old ends result derived.new }
 {
-    if derived.maps[r.table][r.number as usize] != 0 {
+    if EXPRESSIONS < r.table || derived.maps[r.table][r.number as usize] != 0 {
         return Ok(ends);
     }
     import(source, derived, ends, r)
@@ -41,6 +43,7 @@ pub fn import_outside(piece: Piece, derived: &mut DerivedMut, ends: Sizes) -> Re
 {
     let mut e = ends;
     for j in piece.at..piece.end {
+        // A match: `if let` did not prove, since it has no name for the other two arms.
         match referent_of(piece.source.image.tags[j], piece.source.image.words[j]) {
             None => {}
             Some(Referent::Record(r)) => e = import_record(piece.source, derived, e, r)?,

@@ -1,5 +1,5 @@
 // The end of a function's import: the record that goes to the log, its parts in their order: declarations, expressions, named expressions, body. What writes words
-// and classes takes the two arrays, as append_record does.
+// and classes takes these two arrays and not the module, as append_record takes the three that it writes.
 #![tactic(auto)]
 
 ghost use Rattle.std.specs.Prelude.{◌≡◌, ◌++◌, ℕ, ◌+◌, ◌-◌, ◌*◌, ◌/◌, ◌≤◌, ◌<◌, length, get_or};

@@ -33,7 +33,7 @@ pub all_prop : (words : List ℕ) (k : ℕ) (js : List Node) → IsProp (All (Fi
 all_prop words k [] = Unit-prop
 all_prop words k (j ∷ js) = ×_prop (Fits-prop words k j.place j.num) (all_prop words k js)
 
--- a source that passed intake, and the table of what classes refer to; a clause and no ghost field, as `Source` is, which it has as a field
+-- a source that passed intake; a clause and no ghost field, as `Source` is, which it has as a field
 pub record Ground (words tags : List ℕ) (n : ℕ) : Type 0 where
   pub source : Source words tags n
   pub names : named (mod_of words n) ≡ true

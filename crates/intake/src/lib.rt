@@ -1,4 +1,4 @@
-// Intake: the six tests of an image in sequence, on any bytes. Every exported function begins with it.
+// Intake: the six tests of an image in sequence, on any bytes. Every exported function begins with it, but a session does it where a source is set.
 #![tactic(auto)]
 
 ghost use Rattle.std.specs.Prelude.{◌≡◌, ℕ, Ok, length};

@@ -66,7 +66,7 @@ fn skip(words: &Words, at: usize) -> usize
 }
 
 // A statement with blocks that is no Loop: its reads, and its blocks. All that it evaluates is in blocks, so that its contract, like that of `looped`, holds for any
-// word `keep`.
+// word `keep` from `stop` on.
 #[cycle(block_looped_parts_stmt)]
 fn parts(
     expressions: Expressions,

@@ -41,5 +41,6 @@ pub record Says (hashes : ℕ → ℕ → Type 0) (asks : ℕ → Bool → Type 
   pub asked : (j : ℕ) (b : Bool) → j < n → asks j b → b ≡ a j
   pub apart : (j : ℕ) → j < n → ((i : ℕ) → j < i → i < n → h j ≡ h i → ⊥) → a j ≡ true
 
+-- the answer r is whether each of the n things is alone
 pub record AllAlone (hashes : ℕ → ℕ → Type 0) (asks : ℕ → Bool → Type 0) (n : ℕ) (r : Bool) : Type 0 where
   pub same : (h : ℕ → ℕ) (a : ℕ → Bool) → Says hashes asks n h a → r ≡ list_all a (range_with_len 0 n)

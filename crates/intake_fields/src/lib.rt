@@ -3,6 +3,7 @@
 //
 // Words and tags are two parameters of nine functions here: words are only read, and tags only written. A struct of the two, behind a `&mut`, would save each a
 // parameter and cost its contract a clause, that both are still the arrays that it had; `DerivedMut` pays that for five arrays, and `Cursor` for a place that moves.
+// They are arrays with `at` and `end`, not slices from `at` to `end`: tried, and slower by a seventh of intake (docs/DECISIONS.md).
 #![tactic(auto)]
 
 pub mod table;
@@ -119,7 +120,7 @@ fn pair(s: u8) -> (usize, u32)
 // What follows the word w of a list, a variant, a block, cases or a statement's kind: the row at a place of the table, a number of times.
 fn brings(s: u8, w: u32) -> Result<(usize, u32), Misread>
     requires le_s { (110 ≤ s) × (s < 126) }
-    requires fact { s ≡ 124 → ⊥ }
+    requires not_length { s ≡ 124 → ⊥ }
     ensures { MoreIs s w result }
 {
     let (from, most) = pair(s);
@@ -153,7 +154,7 @@ fn opened(
     requires end_in_bounds { end ≤ length words.now }
     requires end_bound { end ≤ 16384 }
     requires le_s { (110 ≤ s) × (s < 126) }
-    requires fact { s ≡ 124 → ⊥ }
+    requires not_length { s ≡ 124 → ⊥ }
     ensures { RowEnsures result tags.new tags.old at end (opening left s (slice at end words.now)) }
 {
     let w = word(words, tags, at, end, s)?;
@@ -204,7 +205,8 @@ fn part(
     }
 }
 
-// The row at pc. It is no `for`: a row ends at a 0, and a range from pc on would need an end that is never reached.
+// The row at pc. It is no `for`: a row ends at a 0, and a range from pc on would need an end that is never reached. `TABLE[pc..].iter().take_while(..)` would also ask
+// at each symbol whether the table ends; it was begun, and is not proved.
 #[cycle(opened_part_row_stmt_times)]
 pub fn row(
     words: &Words,

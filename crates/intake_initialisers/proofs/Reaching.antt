@@ -29,7 +29,7 @@ use Rattle.intake_initialisers.specs.Lists.{Lists, Listed, Initialised}
 use Rattle.intake_initialisers.specs.Room.{blank, Room}
 use Rattle.intake_initialisers.specs.declared.visited.Visited.{Visited}
 use Rattle.intake_initialisers.specs.Marks.{finds, on, inits, Unvisited, Visits, Done, Work, Starting, Reaching, Reaches}
-use Rattle.intake_initialisers.proofs.Visiting.{mem_one, visits_none, few_after}
+use Rattle.intake_initialisers.proofs.Visiting.{mem_one, visits_none}
 
 -- ---- the last of the list
 mem_last : (l : List ℕ) (t : ℕ) → 0 < t → t ≤ length l → take t l ≡ take (t - 1) l ++ (get_or l (t - 1) 0 ∷ [])
@@ -63,12 +63,12 @@ abbrev pub popped : (v : Visited) → Room v.marks v.list (v.top - 1) v.count �
 popped v left = record { marks = v.marks; list = v.list; top = v.top - 1; count = v.count; room = left }
 
 pub left_room : (v : Visited) → Room v.marks v.list (v.top - 1) v.count
-left_room v = record { marks_long = v.room.marks_long; list_long = v.room.list_long; room = omega (arith, v.room.room) }
+left_room v = record { marks_long = v.room.marks_long; list_long = v.room.list_long; room = omega (arith, v.room.room); few = v.room.few }
 
 -- the last of the list is one that is reached
 module _ (f : Function) (v : Visited) (w : Work f v) (h : 0 < v.top) where
   few : v.top ≤ 1024
-  few = omega (arith, v.room.room, w.few)
+  few = omega (arith, v.room.room, v.room.few)
 
   taken : take v.top v.list ≡ take (v.top - 1) v.list ++ (get_or v.list (v.top - 1) 0 ∷ [])
   taken = mem_last v.list v.top h (omega (arith, few, v.room.list_long))
@@ -94,7 +94,6 @@ module _ (f : Function) (v : Visited) (w : Work f v) (h : 0 < v.top) where
   visited : constant_kind (kind_at f.exprs (get_or v.list (v.top - 1) 0)) ≡ true → (left : Room v.marks v.list (v.top - 1) v.count) (v₁ : Visited) → Visits (ops f.exprs (get_or v.list (v.top - 1) 0)) (popped v left) v₁ → Work f v₁
   visited q left v₁ a = record {
     many = a.count_same ∙ w.many;
-    few = few_after w.few a;
     only = λ y p. let u = ⊎_elim (w.only y) (λ u. (u.0, step reached u.1)) (a.new y p) in (omega (arith, u.0, a.count_same), u.1);
     held = λ y p. ⊎_elim (λ u. a.keeps y (w.held y (subst (Mem y) (sym taken) (mem_left (get_or v.list (v.top - 1) 0 ∷ []) u)))) (λ u. u) (a.listed y p);
     begun = λ y p l. a.keeps y (w.begun y p (omega (arith, l, a.count_same)));
@@ -135,7 +134,7 @@ module _ (words tags starts : List ℕ) (v₀ : Visited) where
         reach_below = rw x_is (below pre.function v reach_this h)
 
         pub reach_start : x < 1024
-        reach_start = omega (arith, reach_below, reach_this.few)
+        reach_start = omega (arith, reach_below, v.room.few)
 
         module _ (at : ℕ) (at-is : at ≡ get_or starts x 0) where
           -- where the expression is
@@ -312,11 +311,11 @@ get_d_sets : (l vs : List ℕ) (x : ℕ) → length vs ≤ length l → x < leng
 get_d_sets l vs x h k = ap (λ s. get_or s x 0) (sets-eq vs l 0 (omega arith)) ∙ get_or-append vs (drop (0 + length vs) l) 0 x k
 
 -- there is room where nothing is on the list
-pub room_first : (e : ℕ) (marks : List Bool) (l₀ : List ℕ) → length marks ≡ 1024 → length l₀ ≡ 1024 → Room marks l₀ 0 e
-room_first e marks l₀ long list_long = record { marks_long = long; list_long = list_long; room = omega (arith, blank_most e marks) }
+pub room_first : (e : ℕ) (marks : List Bool) (l₀ : List ℕ) → length marks ≡ 1024 → length l₀ ≡ 1024 → e ≤ 1024 → Room marks l₀ 0 e
+room_first e marks l₀ long list_long few = record { marks_long = long; list_long = list_long; room = omega (arith, blank_most e marks); few = few }
 
-unvisited : ℕ → Visited
-unvisited e = record { marks = replicate 1024 false; list = replicate 1024 0; top = 0; count = e; room = room_first e (replicate 1024 false) (replicate 1024 0) (length-replicate 1024 false) (length-replicate {A = ℕ} 1024 0) }
+unvisited : (e : ℕ) → e ≤ 1024 → Visited
+unvisited e few = record { marks = replicate 1024 false; list = replicate 1024 0; top = 0; count = e; room = room_first e (replicate 1024 false) (replicate 1024 0) (length-replicate 1024 false) (length-replicate {A = ℕ} 1024 0) few }
 
 pub none_visited : {e : ℕ} {l : List ℕ} {left : Room (replicate 1024 false) l 0 e} → Unvisited e l (record { marks = replicate 1024 false; list = l; top = 0; count = e; room = left })
 none_visited = record { marks_are = refl; list_is = refl; top_is = refl; count_is = refl }
@@ -365,7 +364,6 @@ module _ {words tags : List ℕ} {locals exprs end : ℕ} {f : Function} (ls : L
     pub begun : (count : ℕ) → count ≡ get_or words locals 0 → {l₀ : List ℕ} (v₀ : Visited) → Unvisited e l₀ v₀ → (v : Visited) → Visits (inits count (drop (locals + 1) words)) v₀ v → Work f v
     begun count q v₀ n v a = record {
       many = a.count_same ∙ n.count_is ∙ many_is;
-      few = omega (arith, a.count_same, n.count_is, many_few);
       only = λ y p. ⊎_elim (λ u. absurd (none-on 1024 y (rw n.marks_are at u))) (λ u. (omega (arith, u.0, a.count_same), root (subst (Mem y) r u.1))) (a.new y p);
       held = λ y p. ⊎_elim (λ u. absurd (no_mem (rw n.top_is at u))) (λ u. u) (a.listed y p);
       begun = λ y p l. a.hits y (subst (Mem y) (sym r) p) (omega (arith, l, a.count_same));
@@ -398,7 +396,7 @@ module _ (words tags : List ℕ) (locals exprs end : ℕ) (pre : Listed words ta
     -- without locals nothing is reached
     pub init-empty : count ≡ 0 → Initialised true words tags locals exprs end
     unfolding inits unvisited
-    init-empty z = record { same = λ f ls. reached-fine f (unvisited e) (begun ls e e-is count count_is (unvisited e) none_visited (unvisited e) (rw z (visits_none (unvisited e)))) refl }
+    init-empty z = let v = unvisited e init_most in record { same = λ f ls. reached-fine f v (begun ls e e-is count count_is v none_visited v (subst (λ k. Visits (inits k (drop (locals + 1) words)) v v) (sym z) (visits_none v))) refl }
 
     pub init_few : length (finds (exprs + 1) (slice (exprs + 1) end tags)) ≤ 1025
     init_few = found_few pre.lists e e-is

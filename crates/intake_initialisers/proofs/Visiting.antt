@@ -81,9 +81,6 @@ visits_then xs ys a b = record {
   listed = λ y h. ⊎_elim (λ p. ⊎_elim inl (λ q. inr (b.keeps y q)) (a.listed y p)) inr (b.listed y h);
 }
 
-pub few_after : {xs : List ℕ} {v v₁ : Visited} → v.count ≤ 1024 → Visits xs v v₁ → v₁.count ≤ 1024
-few_after r a = omega (arith, a.count_same)
-
 -- ---- one visit
 on-set : (m : List Bool) (z : ℕ) → z < length m → on (set m z true) z ≡ true
 unfolding on
@@ -134,45 +131,44 @@ module _ (v : Visited) where
   unfolding on
   visit_again x h = idle x (λ i. h)
 
-  module _ (few : v.count ≤ 1024) where
-    pub visit_room : (x : ℕ) → x < v.count → get_or v.marks x false ≡ false → v.top < 1024
-    visit_room x h q = omega (arith, blank_some v.count v.marks x h (omega (arith, v.room.marks_long)) q, v.room.room)
+  pub visit_room : (x : ℕ) → x < v.count → get_or v.marks x false ≡ false → v.top < 1024
+  visit_room x h q = omega (arith, blank_some v.count v.marks x h (omega (arith, v.room.marks_long, v.room.few)) q, v.room.room)
 
-    pub visit_left : (z : ℕ) → z < v.count → get_or v.marks z false ≡ false → Room (set v.marks z true) (set v.list v.top z) (v.top + 1) v.count
-    visit_left z h q = record {
-      marks_long = length-set v.marks z true ∙ v.room.marks_long;
-      list_long = length-set v.list v.top z ∙ v.room.list_long;
-      room = omega (arith, blank-set v.count v.marks z h (omega (arith, v.room.marks_long)) q, v.room.room);
-    }
+  pub visit_left : (z : ℕ) → z < v.count → get_or v.marks z false ≡ false → Room (set v.marks z true) (set v.list v.top z) (v.top + 1) v.count
+  visit_left z h q = record {
+    marks_long = length-set v.marks z true ∙ v.room.marks_long;
+    list_long = length-set v.list v.top z ∙ v.room.list_long;
+    room = omega (arith, blank-set v.count v.marks z h (omega (arith, v.room.marks_long, v.room.few)) q, v.room.room);
+    few = v.room.few;
+  }
 
-    pub visit_push : (z : ℕ) → z < v.count → get_or v.marks z false ≡ false → (left : Room (set v.marks z true) (set v.list v.top z) (v.top + 1) v.count) → Visits (z ∷ []) v (record { marks = set v.marks z true; list = set v.list v.top z; top = v.top + 1; count = v.count; room = left })
-    visit_push z h q left = record {
-      count_same = refl;
-      marks_long = length-set v.marks z true;
-      list_long = length-set v.list v.top z;
-      moved = omega (arith, blank-set v.count v.marks z h inside q);
-      keeps = λ y p. cases (on (set v.marks z true) y ≡ true) y z (λ u. rw u (on-set v.marks z inside)) (λ u. on-other v.marks z y u ∙ p);
-      hits = λ y p i. rw (mem_one p) (on-set v.marks z inside);
-      new = λ y p. cases _ y z (λ u. inr (rw u h, rw u here, rw u (subst (Mem z) (sym taken) (mem_right (take v.top v.list) here)))) (λ u. inl (sym (on-other v.marks z y u) ∙ p));
-      lists = λ y p. subst (Mem y) (sym taken) (mem_left (z ∷ []) p);
-      listed = λ y p. ⊎_elim inl (λ u. inr (rw (mem_one {x = y} {y = z} u) (on-set v.marks z inside))) (mem_cases (take v.top v.list) (z ∷ []) (subst (Mem y) taken p));
-    }
-      where
-        inside : z < length v.marks
-        inside = omega (arith, v.room.marks_long)
+  pub visit_push : (z : ℕ) → z < v.count → get_or v.marks z false ≡ false → (left : Room (set v.marks z true) (set v.list v.top z) (v.top + 1) v.count) → Visits (z ∷ []) v (record { marks = set v.marks z true; list = set v.list v.top z; top = v.top + 1; count = v.count; room = left })
+  visit_push z h q left = record {
+    count_same = refl;
+    marks_long = length-set v.marks z true;
+    list_long = length-set v.list v.top z;
+    moved = omega (arith, blank-set v.count v.marks z h inside q);
+    keeps = λ y p. cases (on (set v.marks z true) y ≡ true) y z (λ u. rw u (on-set v.marks z inside)) (λ u. on-other v.marks z y u ∙ p);
+    hits = λ y p i. rw (mem_one p) (on-set v.marks z inside);
+    new = λ y p. cases _ y z (λ u. inr (rw u h, rw u here, rw u (subst (Mem z) (sym taken) (mem_right (take v.top v.list) here)))) (λ u. inl (sym (on-other v.marks z y u) ∙ p));
+    lists = λ y p. subst (Mem y) (sym taken) (mem_left (z ∷ []) p);
+    listed = λ y p. ⊎_elim inl (λ u. inr (rw (mem_one {x = y} {y = z} u) (on-set v.marks z inside))) (mem_cases (take v.top v.list) (z ∷ []) (subst (Mem y) taken p));
+  }
+    where
+      inside : z < length v.marks
+      inside = omega (arith, v.room.marks_long, v.room.few)
 
-        taken : take (v.top + 1) (set v.list v.top z) ≡ take v.top v.list ++ (z ∷ [])
-        taken = rw (add-one v.top) (take-suc-set v.list v.top z (omega (arith, blank_some v.count v.marks z h inside q, v.room.room, v.room.list_long)))
+      taken : take (v.top + 1) (set v.list v.top z) ≡ take v.top v.list ++ (z ∷ [])
+      taken = rw (add-one v.top) (take-suc-set v.list v.top z (omega (arith, blank_some v.count v.marks z h inside q, v.room.room, v.room.list_long)))
 
 -- ---- what cells read
 pub record Spreading (words tags : List ℕ) (at end : ℕ) (v₀ : Visited) (i : ℕ) (v : Visited) : Type 0 where
   pub to : i ≤ end
-  pub few : v.count ≤ 1024
   pub onward : (v₁ : Visited) → Visits (ops_of (between tags words i end)) v v₁ → Visits (ops_of (between tags words at end)) v₀ v₁
 
 module _ (words tags : List ℕ) (at end : ℕ) (v₀ : Visited) where
-  pub spread_begin : at ≤ end → v₀.count ≤ 1024 → Spreading words tags at end v₀ at v₀
-  spread_begin h r = record { to = h; few = r; onward = λ v a. a }
+  pub spread_begin : at ≤ end → Spreading words tags at end v₀ at v₀
+  spread_begin h = record { to = h; onward = λ v a. a }
 
   module _ (i : ℕ) (v : Visited) (inv : Spreading words tags at end v₀ i v) where
     pub spread_done : end ≤ i → Visits (ops_of (between tags words at end)) v₀ v
@@ -188,23 +184,21 @@ module _ (words tags : List ℕ) (at end : ℕ) (v₀ : Visited) where
       unfolding first
       spread_next x is v₁ a = record {
         to = omega arith;
-        few = few_after inv.few a;
         onward = λ v₂ b. inv.onward v₂ (rw (read_one, ← is) (visits_then (x ∷ []) (ops_of (between tags words (i + 1) end)) a b));
       }
 
       pub spread_skip : None ≡ reads (get_or tags i 0) (get_or words i 0) → Spreading words tags at end v₀ (i + 1) v
       unfolding first
-      spread_skip is = record { to = omega arith; few = inv.few; onward = λ v₂ b. inv.onward v₂ (rw (read_one, ← is) b) }
+      spread_skip is = record { to = omega arith; onward = λ v₂ b. inv.onward v₂ (rw (read_one, ← is) b) }
 
 -- ---- what locals begin with
 pub record Rooting (words : List ℕ) (at count : ℕ) (v₀ : Visited) (i : ℕ) (v : Visited) : Type 0 where
   pub to : i ≤ count
-  pub few : v.count ≤ 1024
   pub onward : (v₁ : Visited) → Visits (inits (count - i) (drop (at + 5 * i) words)) v v₁ → Visits (inits count (drop at words)) v₀ v₁
 
 module _ (words : List ℕ) (at count : ℕ) (v₀ : Visited) where
-  pub roots-begin : v₀.count ≤ 1024 → Rooting words at count v₀ 0 v₀
-  roots-begin r = let a : at + 5 * 0 ≡ at = omega arith in let b : count - 0 ≡ count = omega arith in record { to = omega arith; few = r; onward = λ v u. rw (a, b) at u }
+  pub roots-begin : Rooting words at count v₀ 0 v₀
+  roots-begin = let a : at + 5 * 0 ≡ at = omega arith in let b : count - 0 ≡ count = omega arith in record { to = omega arith; onward = λ v u. rw (a, b) at u }
 
   module _ (i : ℕ) (v : Visited) (inv : Rooting words at count v₀ i v) where
     pub roots_done : count ≤ i → Visits (inits count (drop at words)) v₀ v
@@ -226,13 +220,12 @@ module _ (words : List ℕ) (at count : ℕ) (v₀ : Visited) where
       unfolding first
       roots-next x is v₁ a = record {
         to = omega arith;
-        few = few_after inv.few a;
         onward = λ v₂ b. inv.onward v₂ (rw (begin_one, ← is) (visits_then (x ∷ []) (inits (count - (i + 1)) (drop (at + 5 * (i + 1)) words)) a b));
       }
 
       pub roots_skip : None ≡ before (get_or words (at + 5 * i + 4) 0) → Rooting words at count v₀ (i + 1) v
       unfolding first
-      roots_skip is = record { to = omega arith; few = inv.few; onward = λ v₂ b. inv.onward v₂ (rw (begin_one, ← is) b) }
+      roots_skip is = record { to = omega arith; onward = λ v₂ b. inv.onward v₂ (rw (begin_one, ← is) b) }
 
 -- ---- where records start
 -- of a type that `gives` says how to make of a place

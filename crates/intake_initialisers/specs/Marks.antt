@@ -66,7 +66,6 @@ pub record Done (f : Function) (v : Visited) (y : ℕ) : Type 0 where
 -- what is marked is reached, and is on the list or done; the initialisers are marked
 pub record Work (f : Function) (v : Visited) : Type 0 where
   pub many : v.count ≡ length f.exprs
-  pub few : v.count ≤ 1024
   pub only : (y : ℕ) → on v.marks y ≡ true → (y < v.count) × Reached f y
   pub held : (y : ℕ) → Mem y (take v.top v.list) → on v.marks y ≡ true
   pub begun : (y : ℕ) → Mem y (roots f.locals) → y < v.count → on v.marks y ≡ true

@@ -8,8 +8,9 @@ blank (suc e) [] = 0
 blank (suc e) (false ∷ m) = suc (blank e m)
 blank (suc e) (true ∷ m) = blank e m
 
--- of `count` expressions, those on the list and those that may still be put on it are `count` together at most
+-- of `count` expressions, those on the list and those that may still be put on it are `count` together at most, and there are 1024 at most
 pub record Room (marks : List Bool) (list : List ℕ) (top count : ℕ) : Type 0 where
   pub marks_long : length marks ≡ 1024
   pub list_long : length list ≡ 1024
   pub room : top + blank count marks ≤ count
+  pub few : count ≤ 1024

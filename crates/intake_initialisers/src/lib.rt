@@ -2,10 +2,10 @@
 // that each expression is visited once.
 #![tactic(auto)]
 
-ghost use Rattle.std.specs.Prelude.{◌≡◌, [], ◌∷◌, ◌+◌, ◌*◌, ◌≤◌, length, drop};
+ghost use Rattle.std.specs.Prelude.{◌≡◌, [], ◌∷◌, ◌+◌, ◌*◌, ◌≤◌, length, drop, replicate};
 ghost use Rattle.std.proofs.Math.Seq.{slice};
 ghost use Rattle.model.specs.Operands.{ops_of};
-ghost use Rattle.model.specs.Between.{between, Long};
+ghost use Rattle.model.specs.Between.{between};
 ghost use Rattle.intake_initialisers.specs.Lists.{Listed, Initialised};
 ghost use Rattle.intake_initialisers.specs.Marks.{finds, Found, reads, inits, Unvisited, Visits, Reaching, Reaches};
 
@@ -56,8 +56,22 @@ fn operand(s: u8, w: u32) -> Option<u32>
 }
 
 impl Visited {
-    // Of `count` expressions none is visited. The list may hold anything: it is written before it is read.
+    // Of `count` expressions none is visited.
+    pub fn new(count: usize) -> Self
+        requires { count ≤ 1024 }
+        ensures { Unvisited count (replicate 1024 0) result }
+    {
+        Visited {
+            marks: [false; 1024],
+            list: [0; 1024],
+            top: 0,
+            count,
+        }
+    }
+
+    // The same, of what was in use: the list may hold anything, since it is written before it is read.
     pub fn begin(&mut self, count: usize)
+        requires { count ≤ 1024 }
         ensures { Unvisited count self.old.list self.new }
     {
         self.marks = [false; 1024];
@@ -67,7 +81,6 @@ impl Visited {
 
     // Marks the expression x, and puts it on the list; a number outside the table is none.
     fn visit(&mut self, x: u32)
-        requires { self.old.count ≤ 1024 }
         ensures { Visits (x ∷ []) self.old self.new }
     {
         let place = x as usize;
@@ -81,10 +94,8 @@ impl Visited {
 
     // Visits what the words from `at` to `end` read.
     fn spread(&mut self, image: Image, at: usize, end: usize)
-        requires long { Long image.words.now image.tags.now }
         requires at_le_end { at ≤ end }
         requires end_bound { end ≤ 16384 }
-        requires few { self.old.count ≤ 1024 }
         ensures { Visits (ops_of (between image.entry.tags.now image.entry.words.now at end)) self.old self.new }
     {
         for j in at..end {
@@ -98,7 +109,6 @@ impl Visited {
     pub fn roots(&mut self, words: &Words, at: usize, locals: usize)
         requires words_len { length words.now ≡ 16384 }
         requires locals_bound { at + 5 * locals ≤ 16384 }
-        requires few { self.old.count ≤ 1024 }
         ensures { Visits (inits locals (drop at words.now)) self.old self.new }
     {
         for j in 0..locals {
@@ -136,12 +146,7 @@ pub fn initialised(image: Image, locals: usize, exprs: usize, end: usize) -> boo
     if count == 0 {
         return true;
     }
-    let mut visited = Visited {
-        marks: [false; 1024],
-        list: [0; 1024],
-        top: 0,
-        count: image.words[exprs] as usize,
-    };
+    let mut visited = Visited::new(image.words[exprs] as usize);
     visited.roots(image.words, locals + 1, count);
     if visited.top == 0 {
         return true;

@@ -2,8 +2,7 @@
 ghost use Rattle.intake_initialisers.specs.Room.{Room};
 
 // What is visited of the expressions of a function, `count` of them: each has a mark, and the first `top` of `list` are those whose operands are still to be
-// visited. A stack in fixed memory, with room for all that is not marked yet. That `count` is at most 1024 is a clause where marks are read: `begin`, which sets it,
-// would else ask it of its callers.
+// visited. A stack in fixed memory, with room for all that is not marked yet.
 #[derive(Drop)]
 pub struct Visited {
     pub marks: [bool; 1024],

@@ -47,5 +47,6 @@ pub record Does (counts : ℕ → ℕ → ℕ → Type 0) (tests : ℕ → ℕ �
   pub counted : (s n r : ℕ) → s < 256 → n < 16384 → counts s n r → r ≡ next s n
   pub tested : (s w n : ℕ) (b : Bool) → s < 256 → w < 2 ^ 32 → n ≤ 16384 → tests s w n b → b ≡ ok s w n
 
+-- the answer r is that of the pass over the words from `at` to `end`, where the code counts and tests as the pass does
 pub record Passed (counts : ℕ → ℕ → ℕ → Type 0) (tests : ℕ → ℕ → ℕ → Bool → Type 0) (r : Bool) (words tags : List ℕ) (at end : ℕ) : Type 0 where
   pub same : (next : ℕ → ℕ → ℕ) (ok : ℕ → ℕ → ℕ → Bool) → Does counts tests next ok → r ≡ pass (between tags words at end) next ok 0

@@ -1,4 +1,4 @@
-// Refusal 5 of document 01: what has to have a name and has none, and what is equal and has to differ.
+// Refusal 5: what has to have a name and has none, and what is equal and has to differ.
 // Cost: the named expressions are one pass, with marks; what has to differ is looked at by the crate intake_distinct.
 #![tactic(auto)]
 

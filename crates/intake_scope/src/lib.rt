@@ -81,12 +81,7 @@ pub fn in_scope(image: Image) -> bool
 {
     let mut scratch = Scratch {
         starts: [0; 1025],
-        visited: Visited {
-            marks: [false; 1024],
-            list: [0; 1024],
-            top: 0,
-            count: 0,
-        },
+        visited: Visited::new(0),
         until: [0; 1024],
     };
     section(image, &mut scratch, FUNCTIONS, 0) && section(image, &mut scratch, ENTRIES, ENTRY_HEAD)

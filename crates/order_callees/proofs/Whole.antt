@@ -12,7 +12,7 @@ use Rattle.theory_lists.specs.Lists.{found, missed}
 use Rattle.model.specs.Tree.{Function, flat}
 use Rattle.model.specs.Module.{Module, count_at, offset_at, sections}
 use Rattle.model.specs.View.{record_at, record_end}
-use Rattle.model.specs.Taped.{Taped, Tape}
+use Rattle.model.specs.Taped.{Taped}
 use Rattle.model.specs.Carry.{Each, each_none, each_next}
 use Rattle.model.specs.Calls.{any}
 use Rattle.model.specs.Callees.{callees, callees_at, calls, order_of}
@@ -25,25 +25,12 @@ use Rattle.model.specs.Image.{order_ended}
 use Rattle.theory_image.specs.Views.{view_length, view_within}
 use Rattle.theory_image.specs.FunctionViews.{part_words, part_tags, taped_write, taped_length, taped_offset, taped_functions, taped_function, table_least}
 use Rattle.theory_image.specs.Members.{looked_each}
-use Rattle.order_callees.specs.Gathering.{picked, called_by, Markable, Spans, Framed, Known, Marks, Gathered, Listed}
+use Rattle.order_callees.specs.Gathering.{picked, called_by, Markable, Known, Marks, Gathered, Listed}
 use Rattle.theory_order.specs.Cells.{picks, cells_function}
 use Rattle.order_callees.proofs.Marking.{among}
 use Rattle.theory_order.specs.Same.{order_ext}
 
 -- ---- one function
-pub asks : {words tags : List ℕ} {callees : List FunctionSet} {i from to : ℕ} → Framed words tags → i < count_at 6 words → length callees ≡ 256 → from ≡ record_at 6 i words → to ≡ record_end 6 i words → Markable words tags from to i callees
-unfolding called_by
-asks {i} f h l a b =
-    rw (a, b) (record {
-      words_long = f.words_long;
-      tags_long = f.tags_long;
-      rising = (f.each i h).rising;
-      within = (f.each i h).within;
-      row = omega (arith, f.few);
-      long = l;
-      known = (f.each i h).known;
-    })
-
 pub calls-these : (words tags : List ℕ) {before after : List FunctionSet} {i from to : ℕ} → from ≡ record_at 6 i words → to ≡ record_end 6 i words → Marks before i (picked words tags from to) after → Marks before i (called_by words tags i) after
 unfolding called_by
 calls-these words tags a b m = rw (a, b) at m
@@ -119,21 +106,21 @@ module _ {words tags : List ℕ} {n : ℕ} {m : Module} (t : Taped words tags n 
   offsets =
       omega (arith, taped_offset t 6 (omega arith), taped_functions t, view_length m 6 (omega arith), table_least (map flat m.functions), length-map m.functions flat, view_within m 6 (omega arith), taped_write t, t.small)
 
-  spans : Known words tags n → (i : ℕ) → i < count_at 6 words → Spans words tags i
-  spans k i h =
+  -- where a record lies, and that its callees can be marked
+  pub asks : Known words tags n → {i : ℕ} → i < count_at 6 words → {callees : List FunctionSet} → length callees ≡ 256 → {from to : ℕ} → from ≡ record_at 6 i words → to ≡ record_end 6 i words → Markable words tags from to i callees
+  unfolding called_by
+  asks k {i} h l a b =
       let x = found m.functions i (omega (arith, taped_functions t)) in
       let p = (taped_function t i x.0 x.1).part in
-      record {
+      rw (a, b) (record {
+        words_long = t.words_long;
+        tags_long = t.tags_long;
         rising = p.rising;
         within = omega (arith, p.within, taped_length t, t.small);
+        row = omega (arith, few);
+        long = l;
         known = rw (called_is i x.0 x.1) (wider t.well.functions_ok.few (looked_each (k m t) i x.1));
-      }
-
-  frame : Known words tags n → Framed words tags
-  frame k = record { words_long = t.words_long; tags_long = t.tags_long; few = few; offsets = offsets; each = spans k }
-
-pub framed : {words tags : List ℕ} {n : ℕ} → Tape words tags n → Known words tags n → Framed words tags
-framed t k = frame t.taped k
+      })
 
 pub finish : {words tags : List ℕ} {callees : List FunctionSet} {i : ℕ} (n : ℕ) → Going words tags i callees → count_at 6 words ≤ i → Gathered words tags n callees
 finish {words} {tags} {callees} {i} n g h =

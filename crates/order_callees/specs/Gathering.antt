@@ -1,7 +1,7 @@
 -- The callees of functions as they are in words and tags: the words of the class CALLEE between two places, and what marking them does.
 use Rattle.std.specs.Prelude.{◌≡◌, true, cond, ◌&&◌, List, ℕ, ◌+◌, ◌≤◌, ◌<◌, eqb, length, take, drop, Result}
 use Rattle.std.proofs.Math.Seq.{slice}
-use Rattle.model.specs.Module.{Module, count_at, offset_at}
+use Rattle.model.specs.Module.{Module}
 use Rattle.model.specs.View.{record_at, record_end}
 use Rattle.model.specs.Taped.{Taped}
 use Rattle.model.specs.Carry.{Each}
@@ -33,20 +33,6 @@ pub record Markable (words tags : List ℕ) (at end i : ℕ) (callees : List Fun
   pub row : i < 256
   pub long : length callees ≡ 256
   pub known : Each (λ j. j < 256) (picked words tags at end)
-
--- the record of table function i lies in the words, and its callees are functions
-pub record Spans (words tags : List ℕ) (i : ℕ) : Type 0 where
-  pub rising : record_at 6 i words ≤ record_end 6 i words
-  pub within : record_end 6 i words ≤ 16384
-  pub known : Each (λ j. j < 256) (called_by words tags i)
-
--- so does the table with all of its records
-pub record Framed (words tags : List ℕ) : Type 0 where
-  pub words_long : length words ≡ 16384
-  pub tags_long : length tags ≡ 16384
-  pub few : count_at 6 words ≤ 256
-  pub offsets : offset_at 6 words + count_at 6 words ≤ 16384
-  pub each : (i : ℕ) → i < count_at 6 words → Spans words tags i
 
 -- what test 3 has shown of the callees, of the module that words and tags hold; a clause beside `Tape`, for the reason that base_views::Image has for that
 abbrev pub Known : List ℕ → List ℕ → ℕ → Type 0

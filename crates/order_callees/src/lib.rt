@@ -6,11 +6,11 @@ ghost use Rattle.std.specs.Prelude.{◌≡◌, ◌<◌, length};
 ghost use Rattle.model.specs.Module.{count_at};
 ghost use Rattle.model.specs.Taped.{Tape};
 ghost use Rattle.order_ranks.specs.Marks.{NoCalls};
-ghost use Rattle.order_callees.specs.Gathering.{picked, called_by, Markable, Framed, Known, Marks, Gathered, Listed};
+ghost use Rattle.order_callees.specs.Gathering.{picked, called_by, Markable, Known, Marks, Gathered, Listed};
 
 use base_classes::CALLEE;
 use base_refusals::Refusal;
-use base_views::{FUNCTIONS, Image, count, end_of, start_of};
+use base_views::{FUNCTIONS, Image, count};
 use order_ranks::FunctionSet;
 
 // Function i calls what the words from `at` to `end` call.
@@ -28,13 +28,13 @@ fn mark_callees(image: Image, at: usize, end: usize, i: usize, callees: &mut [Fu
 
 // Function i calls what its record calls.
 fn function(image: Image, i: usize, callees: &mut [FunctionSet; 256])
-    requires framed { Framed image.words.now image.tags.now }
+    requires tape { Tape image.words.now image.tags.now image.n }
+    requires known { Known image.words.now image.tags.now image.n }
     requires i_bound { i < count_at 6 image.words.now }
     ensures { Marks callees.old i (called_by image.entry.words.now image.entry.tags.now i) callees.new }
 {
-    let from = start_of(image.words, FUNCTIONS, i);
-    let to = end_of(image.words, FUNCTIONS, i);
-    mark_callees(image, from, to, i, callees);
+    let (at, end) = image.record(FUNCTIONS, i);
+    mark_callees(image, at, end, i, callees);
 }
 
 // What every table function calls.

@@ -1,6 +1,6 @@
 -- Single bytes of words, digits of numbers, and runs of bytes put one after the other.
 use mathlib.Core.Path.{◌≡◌, refl, sym, ap, ◌∙◌}
-use mathlib.Core.List.{List, [], ◌∷◌, ◌++◌}
+use mathlib.Core.List.{List, [], ◌∷◌, ◌++◌, append-nil}
 use Prim.Native.Nat.{ℕ, zero, suc, ◌+◌, ◌*◌, ◌-◌, ◌/◌, ◌%◌, ◌≤◌, ◌<◌}
 use native.Mathlib.Nat.{div-add-mod', mod-lt, zero-lt-suc}
 use native.Mathlib.Numerals.{add-one}
@@ -11,8 +11,9 @@ use lib.Dec.{ltb}
 use lib.ListN.{length, get_or, take, drop, set, length-append, length-drop, length-set}
 use lib.Seq.{sets, drop-cons, drop-length, get_or-take, get_or-drop, length-take-le, length-sets}
 use borrow.Author.Tests.{ltb-true, ltb-false}
+use Rattle.std.proofs.lemmas.List.Edits.{sets-eq}
 use Rattle.base_words.specs.Words.{bytes_of}
-use borrow.Rule.Slice.PartMut.{put_mid}
+use borrow.Rule.Slice.PartMut.{put_mid, mid_of}
 use Rattle.base_words.proofs.Laws.{length_bytes_of}
 use Rattle.base_words.proofs.Loops.{put}
 use Rattle.order_lines.specs.Lines.{decimal, text_at, TextEnsures, Room}
@@ -77,38 +78,51 @@ pub text_long : (words : List ℕ) (p : ℕ) → length words ≡ 16384 → p < 
 unfolding text_at
 text_long words p l h k = length-take-le (get_or words p 0) (bytes_of (drop (p + 1) words)) (rw (length_bytes_of (drop (p + 1) words), length-drop (p + 1) words) (omega arith))
 
--- ---- putting bytes one at a time: what is left of the text, put too, is the whole
-pub record Putting (text out : List ℕ) (at k : ℕ) (now : List ℕ) : Type 0 where
+-- ---- putting bytes one at a time into a part as long as the text: what is left of the text, put too, is the whole
+pub record Putting (text : List ℕ) (k : ℕ) (now : List ℕ) : Type 0 where
   pub high : k ≤ length text
-  pub long : length now ≡ 65536
-  pub is : sets now (at + k) (drop k text) ≡ sets out at text
+  pub long : length now ≡ length text
+  pub is : sets now k (drop k text) ≡ text
 
-module _ {text out : List ℕ} {at k : ℕ} {now : List ℕ} (s : Putting text out at k now) where
-  pub again : k < length text → {b : ℕ} → b ≡ get_or text k 0 → Putting text out at (k + 1) (set now (at + k) b)
+begin : (text out : List ℕ) → length out ≡ length text → Putting text 0 out
+begin text out l =
+    let z : 0 + length text ≡ length out = omega arith in
+    record {
+      high = omega arith;
+      long = l;
+      is = sets-eq text out 0 (omega arith) ∙ ap (text ++◌) (ap (λ n. drop n out) z ∙ drop-length out) ∙ append-nil text;
+    }
+
+module _ {text : List ℕ} {k : ℕ} {now : List ℕ} (s : Putting text k now) where
+  again : k < length text → {b : ℕ} → b ≡ get_or text k 0 → Putting text (k + 1) (set now k b)
   again h {b} e =
-      let z : at + (k + 1) ≡ suc (at + k) = omega arith in
       let d : drop k text ≡ b ∷ drop (suc k) text = drop-cons text k 0 h ∙ ap (◌∷ drop (suc k) text) (sym e) in
-      record { high = omega arith; long = length-set now (at + k) b ∙ s.long; is = rw (z, add-one k) (sym (ap (sets now (at + k)) d) ∙ s.is) }
+      record { high = omega arith; long = length-set now k b ∙ s.long; is = rw (add-one k) (sym (ap (sets now k) d) ∙ s.is) }
 
-  pub finish : length text ≤ k → {n : ℕ} → n ≡ length text → TextEnsures out at text now (at + n)
-  finish h {n} e =
+  finish : length text ≤ k → now ≡ text
+  finish h =
       let f : k ≡ length text = omega (arith, s.high) in
-      record { is = sym (ap (sets now (at + k)) (ap (λ j. drop j text) f ∙ drop-length text)) ∙ s.is; ends = ap (at +◌) e }
+      sym (ap (sets now k) (ap (λ j. drop j text) f ∙ drop-length text)) ∙ s.is
 
 -- ---- a name
-module _ {words : List ℕ} {p : ℕ} {out : List ℕ} {at : ℕ} (q : Room words p out at) where
+module _ {words : List ℕ} {p at : ℕ} (q : Room words p at) where
   pub name_long : length (text_at words p) ≡ get_or words p 0
   name_long = text_long words p q.words_long q.here q.within
 
-  module _ {k : ℕ} {now : List ℕ} (s : Putting (text_at words p) out at k now) where
+  pub name_begin : (out : List ℕ) → length out ≡ 65536 → Putting (text_at words p) 0 (mid_of at (at + get_or words p 0 - at) out)
+  name_begin out l =
+      let e : length (mid_of at (at + get_or words p 0 - at) out) ≡ at + get_or words p 0 - at = length-take-le _ (drop at out) (omega (arith, length-drop at out, q.fits)) in
+      begin _ _ (omega (arith, e, name_long))
+
+  module _ {k : ℕ} {now : List ℕ} (s : Putting (text_at words p) k now) where
     pub inside : k < get_or words p 0 → p + 1 + k / 4 < 16384
     inside h =
         let d : k / 4 * 4 + k % 4 ≡ k = div-add-mod' k 4 in
         omega (arith, q.within, q.here)
 
-    pub name_again : k < get_or words p 0 → {b : ℕ} → b ≡ get_or (bytes_of (drop (p + 1) words)) k 0 → Putting (text_at words p) out at (k + 1) (set now (at + k) b)
+    pub name_again : k < get_or words p 0 → {b : ℕ} → b ≡ get_or (bytes_of (drop (p + 1) words)) k 0 → Putting (text_at words p) (k + 1) (set now k b)
     unfolding text_at
     name_again h e = again s (omega (arith, name_long)) (e ∙ sym (get_or-take (get_or words p 0) (bytes_of (drop (p + 1) words)) k 0 h))
 
-    pub name_finish : get_or words p 0 ≤ k → {n : ℕ} → n ≡ get_or words p 0 → TextEnsures out at (text_at words p) now (at + n)
-    name_finish h e = finish s (omega (arith, name_long)) (e ∙ sym name_long)
+    pub name_finish : get_or words p 0 ≤ k → now ≡ text_at words p
+    name_finish h = finish s (omega (arith, name_long))

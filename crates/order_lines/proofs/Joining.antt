@@ -9,7 +9,7 @@ use lib.Dec.{ltb}
 use lib.ListN.{length, get_or, drop, length-append}
 use lib.Seq.{sets, drop-cons, drop-length}
 use Rattle.order_lines.specs.Lines.{decimal, numbers_text, line_text, lines_text, headed, FUNCTIONS, ordered_text, name_at, name_is, text_at, TextEnsures, Room, Line, Lines, Text}
-use Rattle.order_lines.proofs.Bytes.{puts_both, puts_long, text_long, sets-append}
+use Rattle.order_lines.proofs.Bytes.{puts_both, text_long, sets-append}
 
 -- ---- how long the pieces are
 pub decimal_long : (x : ℕ) → (0 < length (decimal x)) × (length (decimal x) ≤ 3)
@@ -45,19 +45,18 @@ unfolding numbers_text
 numbers-end new s p₁ p₂ p₃ p₄ = rw (joined (decimal new) (32 ∷ []) (decimal s) (32 ∷ [])) at (puts_both (puts_both (puts_both p₁ p₂) p₃) p₄)
 
 -- ---- a line
-module _ {words : List ℕ} {new s : ℕ} {out : List ℕ} {at : ℕ} (q : Line words new s out at) where
+module _ {words : List ℕ} {new s at : ℕ} (q : Line words new s at) where
   pub numbers_fit : at + length (numbers_text new s) < 65536
   numbers_fit = omega (arith, q.fits, line_long new s (name_is words s))
 
   is_long : length (name_is words s) ≡ get_or words (name_at words s) 0
   is_long = text_long words (name_at words s) q.reads.words_long q.reads.here q.reads.within
 
-  module _ {o₁ : List ℕ} {a : ℕ} (p₁ : TextEnsures out at (numbers_text new s) o₁ a) {p : ℕ} (e : p ≡ name_at words s) where
-    pub name_room : Room words p o₁ a
+  module _ {out o₁ : List ℕ} {a : ℕ} (p₁ : TextEnsures out at (numbers_text new s) o₁ a) {p : ℕ} (e : p ≡ name_at words s) where
+    pub name_room : Room words p a
     name_room =
         rw e (record {
           words_long = q.reads.words_long;
-          long = puts_long p₁ ∙ q.long;
           here = q.reads.here;
           within = q.reads.within;
           fits = omega (arith, p₁.ends, is_long, q.fits, line_long new s (name_is words s));
@@ -70,9 +69,6 @@ module _ {words : List ℕ} {new s : ℕ} {out : List ℕ} {at : ℕ} (q : Line 
       pub last_fits : b < 65536
       last_fits = omega (arith, p₁.ends, named.ends, q.fits, line_long new s (name_is words s))
 
-      pub last_long : length o₂ ≡ 65536
-      last_long = puts_long p₂ ∙ puts_long p₁ ∙ q.long
-
       pub line_end : {o₃ : List ℕ} {r : ℕ} → TextEnsures o₂ b (10 ∷ []) o₃ r → TextEnsures out at (line_text new s (name_is words s)) o₃ r
       unfolding line_text
       line_end p₃ = rw (append_assoc (numbers_text new s) (name_is words s) (10 ∷ [])) at (puts_both (puts_both p₁ named) p₃)
@@ -80,12 +76,11 @@ module _ {words : List ℕ} {new s : ℕ} {out : List ℕ} {at : ℕ} (q : Line 
 -- ---- lines: what is left of them, put too, is all of them
 pub record Going (words order out : List ℕ) (at i next : ℕ) (now : List ℕ) : Type 0 where
   pub high : i ≤ length order
-  pub long : length now ≡ 65536
   pub is : sets now next (lines_text (drop i order) i (name_is words)) ≡ sets out at (lines_text order 0 (name_is words))
   pub ends : next + length (lines_text (drop i order) i (name_is words)) ≡ at + length (lines_text order 0 (name_is words))
 
-module _ {words order out : List ℕ} {at : ℕ} (q : Lines words order out at) where
-  module _ {i next : ℕ} {now : List ℕ} (g : Going words order out at i next now) where
+module _ {words order : List ℕ} {at : ℕ} (q : Lines words order at) where
+  module _ {out : List ℕ} {i next : ℕ} {now : List ℕ} (g : Going words order out at i next now) where
     module _ (h : i < length order) {s : ℕ} (e : s ≡ get_or order i 0) where
       split : lines_text (drop i order) i (name_is words) ≡ line_text i s (name_is words s) ++ lines_text (drop (suc i) order) (suc i) (name_is words)
       unfolding lines_text
@@ -95,13 +90,12 @@ module _ {words order out : List ℕ} {at : ℕ} (q : Lines words order out at) 
       split_long : length (lines_text (drop i order) i (name_is words)) ≡ length (line_text i s (name_is words s)) + length (lines_text (drop (suc i) order) (suc i) (name_is words))
       split_long = ap length split ∙ length-append (line_text i s (name_is words s)) (lines_text (drop (suc i) order) (suc i) (name_is words))
 
-      pub line_asks : Line words i s now next
+      pub line_asks : Line words i s next
       line_asks =
           record {
             reads = rw e (q.prints.known i h);
             new_few = omega (arith, q.prints.count_few);
             few = omega (arith, q.prints.few i h);
-            long = g.long;
             fits = omega (arith, split_long, g.ends, q.fits);
           }
 
@@ -109,7 +103,6 @@ module _ {words order out : List ℕ} {at : ℕ} (q : Lines words order out at) 
       lines_again {now'} {r} p =
           rw (add-one i) (record {
             high = omega arith;
-            long = puts_long p ∙ g.long;
             is =
                 ap₂ (λ l j. sets l j (lines_text (drop (suc i) order) (suc i) (name_is words))) p.is p.ends
                 ∙ sets-append (line_text i s (name_is words s)) now next (lines_text (drop (suc i) order) (suc i) (name_is words))
@@ -131,12 +124,11 @@ unfolding headed
 headed-end label x p₁ p₂ p₃ = rw (append_assoc label (decimal x) (10 ∷ [])) at (puts_both (puts_both p₁ p₂) p₃)
 
 module _ {words order out : List ℕ} (q : Text words order out) {o₁ : List ℕ} {at : ℕ} (p : TextEnsures out 0 (headed FUNCTIONS (length order)) o₁ at) where
-  pub text_lines : Lines words order o₁ at
+  pub text_lines : Lines words order at
   unfolding ordered_text
   text_lines =
       record {
         prints = q.prints;
-        long = puts_long p ∙ q.long;
         fits = omega (arith, p.ends, q.fits, length-append (headed FUNCTIONS (length order)) (lines_text order 0 (name_is words)));
       }
 

@@ -9,7 +9,6 @@ use Rattle.model.specs.Module.{Module, offset_at}
 use Rattle.model.specs.View.{record_at}
 use Rattle.base_words.specs.Words.{bytes_of}
 use Rattle.model.specs.Redirect.{name_word}
-use Rattle.order_lines.specs.declared.Cursor.{Cursor}
 
 -- ---- bytes
 -- the decimal digits of a number below 1,000
@@ -62,21 +61,13 @@ pub record TextEnsures (out : List ℕ) (at : ℕ) (xs out' : List ℕ) (next : 
   pub is : out' ≡ sets out at xs
   pub ends : next ≡ at + length xs
 
--- the same of a cursor, which goes on after them in the same buffer
-abbrev pub Puts : Cursor → List ℕ → Cursor → Type 0
-Puts c xs c' = TextEnsures c.out.now c.at xs c'.out.now c'.at
-
-abbrev pub SameBuffer : Cursor → Cursor → Type 0
-SameBuffer c c' = c'.out.ghost_name ≡ c.out.ghost_name
-
 -- the text of the name at p
 unfoldable pub text_at : List ℕ → ℕ → List ℕ
 text_at words p = take (get_or words p 0) (bytes_of (drop (p + 1) words))
 
 -- it lies in the words, and there is room for it
-pub record Room (words : List ℕ) (p : ℕ) (out : List ℕ) (at : ℕ) : Type 0 where
+pub record Room (words : List ℕ) (p at : ℕ) : Type 0 where
   pub words_long : length words ≡ 16384
-  pub long : length out ≡ 65536
   pub here : p < 16384
   pub within : get_or words p 0 ≤ 4 * (16383 - p)
   pub fits : at + get_or words p 0 ≤ 65536
@@ -99,11 +90,10 @@ pub record Readable (words : List ℕ) (s : ℕ) : Type 0 where
   pub within : get_or words (name_at words s) 0 ≤ 4 * (16383 - name_at words s)
 
 -- there is a line of function s, and room for it
-pub record Line (words : List ℕ) (new s : ℕ) (out : List ℕ) (at : ℕ) : Type 0 where
+pub record Line (words : List ℕ) (new s at : ℕ) : Type 0 where
   pub reads : Readable words s
   pub new_few : new < 1000
   pub few : s < 1000
-  pub long : length out ≡ 65536
   pub fits : at + length (line_text new s (name_is words s)) ≤ 65536
 
 -- the numbers have lines
@@ -113,9 +103,8 @@ pub record Printable (words order : List ℕ) : Type 0 where
   pub few : (k : ℕ) → k < length order → get_or order k 0 < 1000
 
 -- and room for them
-pub record Lines (words order out : List ℕ) (at : ℕ) : Type 0 where
+pub record Lines (words order : List ℕ) (at : ℕ) : Type 0 where
   pub prints : Printable words order
-  pub long : length out ≡ 65536
   pub fits : at + length (lines_text order 0 (name_is words)) ≤ 65536
 
 -- and for the text as a whole

@@ -3,7 +3,7 @@
 #![tactic(auto)]
 
 ghost use Rattle.std.specs.Prelude.{◌≡◌, ◌+◌, ◌≤◌, ◌<◌, length};
-ghost use Rattle.order_lines.specs.Lines.{decimal, numbers_text, line_text, lines_text, headed, ordered_text, name_at, name_is, text_at, TextEnsures, Puts, SameBuffer, Room, Readable, Line, Lines, Text};
+ghost use Rattle.order_lines.specs.Lines.{decimal, numbers_text, line_text, lines_text, headed, ordered_text, name_at, name_is, text_at, TextEnsures, Room, Readable, Line, Lines, Text};
 
 use base_words::Words;
 
@@ -30,13 +30,15 @@ fn name_of(words: &Words, s: usize) -> usize
 struct Cursor<'a> {
     out: &'a mut [u8; 65536],
     at: usize,
+    ghost long: { length out.now ≡ 65536 },
 }
 
 impl Cursor<'_> {
+    ghost use Rattle.order_lines.specs.Cursors.{Puts, SameBuffer};
+
     // These bytes.
     fn put(&mut self, text: &[u8])
-        requires out_len { length self.old.out.now ≡ 65536 }
-        requires text_bound { self.old.at + length text.now ≤ 65536 }
+        requires { self.old.at + length text.now ≤ 65536 }
         ensures puts { Puts self.old text.now self.new }
         ensures same { SameBuffer self.old self.new }
     {
@@ -49,7 +51,7 @@ impl Cursor<'_> {
 
     // A number below 1,000, as those of functions are. (`write!` promises its bytes only where it ends with `Ok`, and no clause says when it does.)
     fn put_number(&mut self, x: usize)
-        requires { (length self.old.out.now ≡ 65536) × (self.old.at + 3 ≤ 65536) × (x < 1000) }
+        requires { (self.old.at + 3 ≤ 65536) × (x < 1000) }
         ensures puts { Puts self.old (decimal x) self.new }
         ensures same { SameBuffer self.old self.new }
     {
@@ -60,22 +62,23 @@ impl Cursor<'_> {
 
     // The bytes of the name at p.
     fn put_name(&mut self, words: &Words, p: usize)
-        requires { Room words.now p self.old.out.now self.old.at }
+        requires { Room words.now p self.old.at }
         ensures puts { Puts self.old (text_at words.now p) self.new }
         ensures same { SameBuffer self.old self.new }
     {
-        let n = words[p] as usize;
         let at = self.at;
+        let end = at + words[p] as usize;
         let out = &mut *self.out;
-        for k in 0..n {
-            out[at + k] = words[p + 1 + k / 4].to_le_bytes()[k % 4];
+        let name = &mut out[at..end];
+        for (k, byte) in name.iter_mut().enumerate() {
+            *byte = words[p + 1 + k / 4].to_le_bytes()[k % 4];
         }
-        self.at = at + n;
+        self.at = end;
     }
 
     // Two numbers, each with a space after it.
     fn put_numbers(&mut self, new: usize, s: usize)
-        requires out_len { (length self.old.out.now ≡ 65536) × (self.old.at + length (numbers_text new s) < 65536) }
+        requires room { self.old.at + length (numbers_text new s) < 65536 }
         requires bound { (new < 1000) × (s < 1000) }
         ensures puts { Puts self.old (numbers_text new s) self.new }
         ensures same { SameBuffer self.old self.new }
@@ -88,7 +91,7 @@ impl Cursor<'_> {
 
     // The line of table function s.
     fn put_line(&mut self, words: &Words, new: usize, s: usize)
-        requires { Line words.now new s self.old.out.now self.old.at }
+        requires { Line words.now new s self.old.at }
         ensures puts { Puts self.old (line_text new s (name_is words.now s)) self.new }
         ensures same { SameBuffer self.old self.new }
     {
@@ -99,7 +102,7 @@ impl Cursor<'_> {
 
     // The lines of an order.
     fn put_lines(&mut self, words: &Words, order: &[u32])
-        requires { Lines words.now order.now self.old.out.now self.old.at }
+        requires { Lines words.now order.now self.old.at }
         ensures puts { Puts self.old (lines_text order.now 0 (name_is words.now)) self.new }
         ensures same { SameBuffer self.old self.new }
     {
@@ -110,7 +113,7 @@ impl Cursor<'_> {
 
     // A first line: words, a number, and the end of the line.
     fn put_head(&mut self, label: &[u8], x: usize)
-        requires out_len { (length self.old.out.now ≡ 65536) × (self.old.at + 20 ≤ 65536) }
+        requires room { self.old.at + 20 ≤ 65536 }
         requires label_len_bound { (length label.now ≤ 16) × (x < 1000) }
         ensures puts { Puts self.old (headed label.now x) self.new }
         ensures same { SameBuffer self.old self.new }

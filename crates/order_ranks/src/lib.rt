@@ -1,7 +1,7 @@
 // The order of output: every function after those that it calls, by rank and then by source number,
 // or the refusal of a ring, with the count of the functions from which a chain of calls reaches it.
 // Callees and waiting functions are sets of 256 marks, four 64-bit words each. Functions are placed in
-// rounds, as Redirector::into_module does: a round places those that call none that was waiting when it began.
+// rounds, as `Redirector::into_module` does in redirect.rs, of which this is a port: a round places those that call none that was waiting when it began.
 #![tactic(auto)]
 
 ghost use Rattle.std.specs.Prelude.{◌≡◌, true, false, ◌≤◌, ◌<◌, length};
@@ -60,7 +60,7 @@ impl FunctionSet {
     }
 
     // How many functions the set has.
-    pub fn count(&self) -> u32
+    fn count(&self) -> u32
         ensures { result ≡ length (members self.now.0) }
     {
         (0..4).map(|w| self.0[w].count_ones()).sum()

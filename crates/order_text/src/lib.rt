@@ -31,7 +31,7 @@ pub fn tell(image: Image, out: &mut [u8; 65536]) -> Said
             let functions = base_views::count(image.words, base_views::FUNCTIONS);
             text(image.words, &order[..functions], out)
         }
-        // Only a ring is refused.
+        // Only a ring is refused. A match on `Ring` leaves an arm for the others; the proof that it is not reached was tried and did not close.
         Err(refusal) => head(b"refused 12 left ", refusal.count() as usize, out),
     };
     Said { count, ended }

@@ -16,10 +16,10 @@ use Rattle.model.specs.Refusals.{Ended, refused}
 use Rattle.model.specs.Intake.{of_laid, after_intake, on_words}
 use Rattle.model.specs.Image.{on_image, redirect_ended, redirect_after, redirect_image, redirect_answer, wuldgisp_redirect, RedirectEnsures}
 use Rattle.theory_image.specs.OnWords.{on_refused, on_module}
-use Rattle.redirect_words.specs.Passes.{Redirected, shown as shownOf, Stores}
+use Rattle.redirect_words.specs.Passes.{Redirected, shown, Stores}
 use Rattle.redirect_words.proofs.Finding.{find_in}
 use Rattle.redirect_words.proofs.Theorems.{accepted}
-use Rattle.redirect_bytes.specs.Answers.{shown, RedirectFunctionEnsures, Small, small_both, small_refused}
+use Rattle.redirect_bytes.specs.Answers.{RedirectFunctionEnsures, Small, small_both, small_refused}
 use Rattle.std.specs.Prelude.{Ok, Err}
 use Rattle.base_refusals.specs.declared.Refusal.{Refusal}
 use Rattle.base_refusals.specs.declared.Refusal.TheVariants.{Ring}
@@ -49,7 +49,7 @@ module _ (image : List ℕ) (o p : ℕ) (omit : List ℕ) where
   module _ (words tags : List ℕ) where
     -- ---- intake refuses
     pub intake_refuses : (e : Refusal) → TakeInEnsures (Err e) words tags image → RedirectFunctionEnsures (Err e) image image o p omit
-    unfolding shownOf
+    unfolding shown
     intake_refuses e got =
         let x = is_refused e in
         let low : number_of_refusal e ≤ 6 = omega (arith, got.same, intake_low (length image) (words_of image)) in

@@ -2,11 +2,7 @@
 use Rattle.std.specs.Prelude.{◌≡◌, List, ℕ, ◌<◌}
 use Rattle.model.specs.Refusals.{Ended, done, refused}
 use Rattle.model.specs.Image.{redirect_image}
-use Rattle.redirect_words.specs.Passes as passes
-use Rattle.redirect_words.specs.Passes.{Redirected}
-
-abbrev pub shown : Redirected → Ended (ℕ × ℕ)
-shown r = passes.shown r
+use Rattle.redirect_words.specs.Passes.{Redirected, shown}
 
 pub record RedirectFunctionEnsures (r : Redirected) (image₀ image : List ℕ) (original replacement : ℕ) (omit : List ℕ) : Type 0 where
   pub same : (shown r, image) ≡ redirect_image image₀ original replacement omit

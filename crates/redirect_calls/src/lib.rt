@@ -39,7 +39,7 @@ fn omitted(omit: &[u32], w: u32) -> bool
     omit.iter().any(|name| is_named(w, *name))
 }
 
-// A word of the class s: the function of a Call or of a CallResult.
+// What a word of the class s becomes: the replacement, where it is the original as the function of a Call or of a CallResult; else what it was.
 #[tactic(auto, unfolding(model::specs::Redirect::redirecting))]
 fn redirect_word(s: u8, w: u32, redirection: Redirection) -> u32
     ensures { result ≡ redirecting redirection.entry.original.0 redirection.entry.replacement.0 s w }

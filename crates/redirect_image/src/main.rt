@@ -2,7 +2,7 @@
 // replacement's, and those of omitted functions. A refusal, a wrong argument or a failed read is one line on standard error, and nothing is written.
 #![tactic(auto)]
 
-ghost use Rattle.std.specs.Prelude.{◌≡◌, ◌≤◌, length};
+ghost use Rattle.std.specs.Prelude.{◌≡◌};
 ghost use Rattle.redirect_image.specs.Numbers.{read as read_of};
 
 use redirect_words::Request;
@@ -18,11 +18,20 @@ fn read(text: &[u8]) -> Option<u32>
     str::from_utf8(text).ok()?.parse().ok()
 }
 
+// How the arguments are wrong.
+#[derive(Clone, Copy)]
+enum BadArguments {
+    TooFew,
+    TooMany,
+    // The argument at this place is no number of a name.
+    NoNumber(usize),
+}
+
 // Argument i as a number.
-fn argument(rt: &impl Env, i: usize) -> Option<u32> {
+fn argument(rt: &impl Env, i: usize) -> Result<u32, BadArguments> {
     let mut text = [0; 4096];
-    let n = rt.arg(i, &mut text).ok()?;
-    read(&text[..n])
+    let n = rt.arg(i, &mut text).map_err(|_| BadArguments::NoNumber(i))?;
+    read(&text[..n]).ok_or(BadArguments::NoNumber(i))
 }
 
 fn is_present(rt: &impl Env, i: usize) -> bool {
@@ -34,20 +43,19 @@ fn argument_count(rt: &impl Env) -> usize {
     (0..516).take_while(|i| is_present(rt, *i)).count()
 }
 
-// A line on standard error.
-fn say(rt: &impl Eprint, text: &str) {
-    let _ = eprintln!(rt; "{text}");
-}
-
-fn usage(rt: &impl Eprint) {
-    say(
-        rt,
-        "usage: redirect_image ORIGINAL REPLACEMENT [OMITTED ..] < IMAGE > REDIRECTED, where functions are given by the numbers of their names",
-    );
-}
-
-fn wrong(rt: &impl Eprint, i: usize) {
-    let _ = eprintln!(rt; "redirect_image: argument {i} is no number of a name");
+// Says on standard error how the arguments are wrong.
+fn tell(rt: &impl Eprint, bad: BadArguments) {
+    let _ = match bad {
+        BadArguments::TooFew => eprintln!(rt;
+            "usage: redirect_image ORIGINAL REPLACEMENT [OMITTED ..] < IMAGE > REDIRECTED, where functions are given by the numbers of their names"
+        ),
+        BadArguments::TooMany => eprintln!(rt;
+            "redirect_image: more names are omitted than an image may have, 512"
+        ),
+        BadArguments::NoNumber(i) => eprintln!(rt;
+            "redirect_image: argument {i} is no number of a name"
+        ),
+    };
 }
 
 // Writes the image, redirected; or its refusal.
@@ -58,53 +66,34 @@ fn redirect(rt: &(impl Print + Eprint), image: &mut [u8], request: Request) {
     }
 }
 
-// The numbers of the arguments from the third on; or the first argument that is none.
-fn omitted(rt: &impl Env, omit: &mut [u32]) -> Result<(), usize>
-    requires { length omit.old ≤ 512 }
-{
-    for (i, name) in omit.iter_mut().enumerate() {
-        *name = argument(rt, i + 3).ok_or(i + 3)?;
+// Reads the arguments and then the image, which is redirected.
+fn run(rt: &HostRuntime) -> Result<(), BadArguments> {
+    let count = argument_count(rt);
+    if count < 3 {
+        return Err(BadArguments::TooFew);
     }
-    Ok(())
-}
-
-fn run(rt: &HostRuntime, original: u32, replacement: u32, count: usize)
-    requires { count ≤ 512 }
-{
+    if 515 < count {
+        return Err(BadArguments::TooMany);
+    }
+    let original = argument(rt, 1)?;
+    let replacement = argument(rt, 2)?;
     // room for every name
     let mut omit = [0; 512];
-    if let Err(bad) = omitted(rt, &mut omit[..count]) {
-        wrong(rt, bad);
-        return;
+    let omit = &mut omit[..count - 3];
+    for (i, name) in omit.iter_mut().enumerate() {
+        *name = argument(rt, i + 3)?;
     }
     let request = Request {
         original,
         replacement,
-        omit: &omit[..count],
+        omit,
     };
     program_streams::with_image(rt, "redirect_image", |image| redirect(rt, image, request));
+    Ok(())
 }
 
 fn main(rt: HostRuntime) {
-    let count = argument_count(&rt);
-    if count < 3 {
-        usage(&rt);
-        return;
+    if let Err(bad) = run(&rt) {
+        tell(&rt, bad);
     }
-    if 515 < count {
-        say(
-            &rt,
-            "redirect_image: more names are omitted than an image may have, 512",
-        );
-        return;
-    }
-    let Some(original) = argument(&rt, 1) else {
-        wrong(&rt, 1);
-        return;
-    };
-    let Some(replacement) = argument(&rt, 2) else {
-        wrong(&rt, 2);
-        return;
-    };
-    run(&rt, original, replacement, count - 3);
 }

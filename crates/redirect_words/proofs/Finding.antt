@@ -16,7 +16,7 @@ use Rattle.model.specs.Taped.{Taped, Tape}
 use Rattle.model.specs.Redirect.{name_word, find, argument_types, agree, result_type, same, nothing, function, compared}
 use Rattle.base_views.proofs.Places.{standing-function, standing-inside}
 use Rattle.model.specs.Image.{redirect_ended}
-use Rattle.redirect_words.specs.Passes.{found_at, shown, Finds, Agrees, Returns, Compares}
+use Rattle.redirect_words.specs.Passes.{found_at, both_or, Finds, Agrees, Returns, Compares}
 use Rattle.std.specs.Prelude.{Ok, Err, Some, None, MatchOption, IsSomeAnd, cond, Option as Found}
 use Rattle.std.specs.Option.{option_map}
 use Rattle.std.specs.List.{list_all, range_with_len, find as search_for}
@@ -175,14 +175,14 @@ module _ (words tags : List ℕ) (n i k : ℕ) (h : Tape words tags n) (x : i < 
 -- ---- compare
 module _ (words tags : List ℕ) (n a b : ℕ) (r : Bool) (g : Agrees r words tags n a b) where
   pub differ_arguments : r ≡ false → Compares (Err ArgumentTypes) words tags n a b
-  unfolding compared shown redirect_ended
+  unfolding compared both_or redirect_ended
   differ_arguments e = record { same = λ m t omit. rw (compared, sym (g.same m t) ∙ e) }
 
   module _ (e : r ≡ true) (s : Bool) (d : Returns s words tags n a b) where
     pub differ-results : s ≡ false → Compares (Err ResultTypes) words tags n a b
-    unfolding compared shown redirect_ended
+    unfolding compared both_or redirect_ended
     differ-results z = record { same = λ m t omit. rw (compared, sym (g.same m t) ∙ e, sym (d.same m t) ∙ z) }
 
-    pub differ-none : s ≡ true → (f h : FunctionHandle) → f.0 ≡ a → h.0 ≡ b → Compares (Ok (f, h)) words tags n a b
-    unfolding compared shown redirect_ended
-    differ-none z f h u v = record { same = λ m t omit. rw (compared, sym (g.same m t) ∙ e, sym (d.same m t) ∙ z, u, v) }
+    pub differ-none : s ≡ true → (u : Unit {0}) → Compares (Ok u) words tags n a b
+    unfolding compared both_or redirect_ended
+    differ-none z u = record { same = λ m t omit. rw (compared, sym (g.same m t) ∙ e, sym (d.same m t) ∙ z) }

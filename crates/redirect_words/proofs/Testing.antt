@@ -11,8 +11,8 @@ use Rattle.model.specs.Redirect.{all_below, with_replacement, with_original, red
 use Rattle.theory_image.specs.Views.{sees_names}
 use Rattle.theory_image.specs.FunctionViews.{taped_count}
 use Rattle.model.specs.Image.{redirect_ended}
-use Rattle.redirect_words.specs.Passes.{Redirected, found_at, shown, Finds, Compares, Tests}
-use Rattle.std.specs.Prelude.{Result, Err, Some, None, Option}
+use Rattle.redirect_words.specs.Passes.{found_at, shown, both_or, Finds, Compares, Tests}
+use Rattle.std.specs.Prelude.{Result, Ok, Err, Some, None, Option}
 use Rattle.std.specs.Option.{ok_or}
 use Rattle.base_refusals.specs.declared.Refusal.{Refusal}
 use Rattle.base_refusals.specs.declared.Refusal.TheVariants.{NumberGiven, OriginalNotFound, ReplacementNotFound}
@@ -55,6 +55,11 @@ module _ (words tags : List ℕ) (n o p : ℕ) (omit : List ℕ) (r : Bool) (is 
       unfolding redirect_function with_original with_replacement shown redirect_ended found_at
       test_replacement y = record { same = λ m t. rw (redirect_function, below m t ∙ e, sym (s.same m t) ∙ ap found_at z, with_replacement, sym (u.same m t) ∙ ap found_at y) }
 
-      pub test_compared : (b : FunctionHandle) → g ≡ Some b → (x : Redirected) → Compares x words tags n a.0 b.0 → Tests x words tags n o p omit
-      unfolding redirect_function with_original with_replacement found_at
-      test_compared b y x d = record { same = λ m t. rw (redirect_function, below m t ∙ e, sym (s.same m t) ∙ ap found_at z, with_replacement, sym (u.same m t) ∙ ap found_at y) (d.same m t omit) }
+      module _ (b : FunctionHandle) (y : g ≡ Some b) where
+        pub test_differ : (x : Refusal) → Compares (Err x) words tags n a.0 b.0 → Tests (Err x) words tags n o p omit
+        unfolding redirect_function with_original with_replacement shown both_or found_at
+        test_differ x d = record { same = λ m t. rw (redirect_function, below m t ∙ e, sym (s.same m t) ∙ ap found_at z, with_replacement, sym (u.same m t) ∙ ap found_at y) (d.same m t omit) }
+
+        pub test_agree : (x : Unit {0}) → Compares (Ok x) words tags n a.0 b.0 → Tests (Ok (a, b)) words tags n o p omit
+        unfolding redirect_function with_original with_replacement shown both_or found_at
+        test_agree x d = record { same = λ m t. rw (redirect_function, below m t ∙ e, sym (s.same m t) ∙ ap found_at z, with_replacement, sym (u.same m t) ∙ ap found_at y) (d.same m t omit) }

@@ -25,6 +25,11 @@ unfoldable pub shown : Redirected → Ended (ℕ × ℕ)
 shown (Ok p) = done (p.0.0, p.1.0)
 shown (Err e) = refused_by e
 
+-- how a test of functions a and b ends: with both, where it passes
+unfoldable pub both_or : ℕ → ℕ → Result (Unit {0}) Refusal → Ended (ℕ × ℕ)
+both_or a b (Ok u) = done (a, b)
+both_or a b (Err e) = refused_by e
+
 -- ---- tests
 pub record Finds (r : Found FunctionHandle) (words tags : List ℕ) (n name : ℕ) : Type 0 where
   pub same : (m : Module) → Taped words tags n m → found_at r ≡ find m.functions 0 name
@@ -35,8 +40,8 @@ pub record Agrees (r : Bool) (words tags : List ℕ) (n i k : ℕ) : Type 0 wher
 pub record Returns (r : Bool) (words tags : List ℕ) (n i k : ℕ) : Type 0 where
   pub same : (m : Module) → Taped words tags n m → r ≡ sameType (result_type (function m i)) (result_type (function m k))
 
-pub record Compares (r : Redirected) (words tags : List ℕ) (n a b : ℕ) : Type 0 where
-  pub same : (m : Module) → Taped words tags n m → (omit : List ℕ) → shown r ≡ redirect_ended (compared m a b omit)
+pub record Compares (r : Result (Unit {0}) Refusal) (words tags : List ℕ) (n a b : ℕ) : Type 0 where
+  pub same : (m : Module) → Taped words tags n m → (omit : List ℕ) → both_or a b r ≡ redirect_ended (compared m a b omit)
 
 pub record Tests (r : Redirected) (words tags : List ℕ) (n original replacement : ℕ) (omit : List ℕ) : Type 0 where
   pub same : (m : Module) → Taped words tags n m → shown r ≡ redirect_ended (redirect_function m original replacement omit)

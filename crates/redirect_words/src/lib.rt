@@ -74,7 +74,7 @@ fn type_at(words: &Words, s: usize, i: usize) -> u32
 // Whether the argument types of two functions are equal, up to the shorter list.
 fn arguments_agree(image: Image, original: FunctionHandle, replacement: FunctionHandle) -> bool
     requires tape { Tape image.words.now image.tags.now image.n }
-    requires original_bound { (original.0 < count_at 6 image.words.now) × (replacement.0 < count_at 6 image.words.now) }
+    requires bounds { (original.0 < count_at 6 image.words.now) × (replacement.0 < count_at 6 image.words.now) }
     ensures { Agrees result image.entry.words.now image.entry.tags.now image.entry.n original.0 replacement.0 }
 {
     let a = start(image, original);
@@ -95,7 +95,7 @@ fn returns_at(image: Image, f: FunctionHandle) -> usize
 // Whether two functions have no result, or results of one type.
 fn results_agree(image: Image, original: FunctionHandle, replacement: FunctionHandle) -> bool
     requires tape { Tape image.words.now image.tags.now image.n }
-    requires original_bound { (original.0 < count_at 6 image.words.now) × (replacement.0 < count_at 6 image.words.now) }
+    requires bounds { (original.0 < count_at 6 image.words.now) × (replacement.0 < count_at 6 image.words.now) }
     ensures { Returns result image.entry.words.now image.entry.tags.now image.entry.n original.0 replacement.0 }
 {
     let x = returns_at(image, original);
@@ -104,14 +104,14 @@ fn results_agree(image: Image, original: FunctionHandle, replacement: FunctionHa
         && (image.words[x] == 0 || image.words[x + 1] == image.words[y + 1])
 }
 
-// Both functions, the original first, where their argument types and then their result types agree.
+// Whether the argument types of two functions and then their result types agree, or which do not.
 pub fn compare(
     image: Image,
     original: FunctionHandle,
     replacement: FunctionHandle,
-) -> Result<(FunctionHandle, FunctionHandle), Refusal>
+) -> Result<(), Refusal>
     requires tape { Tape image.words.now image.tags.now image.n }
-    requires original_bound { (original.0 < count_at 6 image.words.now) × (replacement.0 < count_at 6 image.words.now) }
+    requires bounds { (original.0 < count_at 6 image.words.now) × (replacement.0 < count_at 6 image.words.now) }
     ensures { Compares result image.entry.words.now image.entry.tags.now image.entry.n original.0 replacement.0 }
 {
     if !arguments_agree(image, original, replacement) {
@@ -120,7 +120,7 @@ pub fn compare(
     if !results_agree(image, original, replacement) {
         return Err(Refusal::ResultTypes);
     }
-    Ok((original, replacement))
+    Ok(())
 }
 
 // The tests in sequence: the numbers given, both names, the argument types, and the result types.
@@ -133,7 +133,8 @@ fn test(image: Image, request: Request) -> Result<(FunctionHandle, FunctionHandl
     }
     let a = find(image, request.original).ok_or(Refusal::OriginalNotFound)?;
     let b = find(image, request.replacement).ok_or(Refusal::ReplacementNotFound)?;
-    compare(image, a, b)
+    compare(image, a, b)?;
+    Ok((a, b))
 }
 
 // Calls of the function with the original's name become calls of the function with the replacement's, but for those in the replacement and in the functions

@@ -1,5 +1,5 @@
 // Replays reference vectors: standard input holds them one after the other, each as the number that intake answers (0 for accepted), the length
-// of the image and its bytes. A vector that is answered otherwise is named by its place; the last line says how many agree.
+// of the image and its bytes. A vector that is answered otherwise is named by its place; the last line says how many agree, of up to 99,999 vectors.
 #![tactic(auto)]
 
 use std::io::{self, Read};
@@ -39,6 +39,7 @@ fn differs(rt: &(impl Print + Eprint), number: u64) -> io::Result<()> {
 fn main(rt: HostRuntime) {
     let mut input = rt.stdin();
     let mut good: u64 = 0;
+    // a bound, many times the vectors there are, keeps the counts from overflowing; input that reaches it has no last line
     for all in 0..100000 {
         match head(&mut input) {
             Ok(Some((want, n))) => {

@@ -52,6 +52,7 @@ fn first_of(
     ensures { as_number result ≡ or_else (as_number first) (numbered (shown said).refusal j) }
 {
     first?;
+    // `map_err` in place of the match was tried; the proof of it did not close
     match said {
         Ok(_) => Ok(()),
         Err(refusal) => Err(RefusedStep { refusal, step: j }),

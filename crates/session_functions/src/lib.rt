@@ -14,7 +14,7 @@ ghost use Rattle.function_builder.specs.Stacks.{Stacks};
 ghost use Rattle.derive_session.specs.Valid.{ValidSession};
 ghost use Rattle.derive_finish.specs.Told.{refusal_of, bytes_in};
 ghost use Rattle.session_operations.specs.Answers.{value_in};
-ghost use Rattle.session_operations.specs.Sessions.{Valid, Operates, Finishes};
+ghost use Rattle.session_operations.specs.Sessions.{Valid, Operates, Finishes, ImportStays, FinishStays};
 ghost use Rattle.session_functions.specs.Brought.{BringsTo};
 
 use base_refusals::Refusal;
@@ -64,7 +64,8 @@ fn append_or_undo(
 // import_function: appends function f. Its number in the derived module.
 pub fn import_function(session: &mut Session, f: u32) -> Result<u32, Refusal>
     requires { Valid session.old }
-    ensures { Operates {A = ℕ} (import_function f) session.old (refusal_of result) (value_in result) session.new }
+    ensures operates { Operates {A = ℕ} (import_function f) session.old (refusal_of result) (value_in result) session.new }
+    ensures stays { ImportStays session.old session.new }
 {
     let r = Reference {
         table: FUNCTIONS,
@@ -95,7 +96,8 @@ pub fn import_function(session: &mut Session, f: u32) -> Result<u32, Refusal>
 // map_function_handle, import_function_if_new: the derived function that has the name of function f, imported first if there is none.
 pub fn map_function_handle(session: &mut Session, f: u32) -> Result<u32, Refusal>
     requires { Valid session.old }
-    ensures { Operates {A = ℕ} (map_function_handle f) session.old (refusal_of result) (value_in result) session.new }
+    ensures operates { Operates {A = ℕ} (map_function_handle f) session.old (refusal_of result) (value_in result) session.new }
+    ensures stays { ImportStays session.old session.new }
 {
     let r = Reference {
         table: FUNCTIONS,
@@ -130,7 +132,8 @@ pub fn map_function_handle(session: &mut Session, f: u32) -> Result<u32, Refusal
 // finish, with the source's entry points. They stay in no session: starts and maps are restored, whether it is refused or not.
 pub fn finish_with_entries(session: &mut Session, output: &mut [u8]) -> Result<usize, Refusal>
     requires { Valid session.old }
-    ensures { Finishes (finish_with_entry_points (length output.old)) session.old (refusal_of result) (bytes_in result) output.old output.new session.new }
+    ensures finishes { Finishes (finish_with_entry_points (length output.old)) session.old (refusal_of result) (bytes_in result) output.old output.new session.new }
+    ensures stays { FinishStays session.old (refusal_of result) session.new }
 {
     let set = session.source.ok_or(Refusal::NoSource)?;
     let source = set.over(session.words, session.tags);

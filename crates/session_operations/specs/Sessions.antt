@@ -1,5 +1,5 @@
--- A session in arrays of the caller: the model's session that it means, when it is valid between two operations, and what an operation on it promises.
-use Rattle.std.specs.Prelude.{◌≡◌, ◌≤◌, ◌⊎◌, ℕ, Bool, true, false, List, Option, None, Some, replicate, slice_set}
+-- A session in arrays of the caller: the model's session that it means, when it is valid between two operations, and what an operation on it promises and leaves.
+use Rattle.std.specs.Prelude.{◌≡◌, ◌<◌, ◌≤◌, ◌⊎◌, ℕ, Bool, true, false, List, Option, None, Some, replicate, slice_set}
 use Rattle.base_refusals.specs.declared.Refusal.{Refusal}
 use Rattle.base_refusals.specs.declared.Refusal.TheVariants.{NoSource, NumberGiven}
 use Rattle.model.specs.Session.{Session as Session', Answer}
@@ -55,6 +55,21 @@ pub record Finishes (op : Session' → Answer (List ℕ)) (s : Session) (refusal
   pub does : FinishEnsures (op (meant s)) (meant s) refusal bytes output₀ output (meant s')
   pub valid : Valid s'
   pub same : SameMemory s s'
+
+-- ---- what an operation leaves as it was
+-- an import leaves the source that is set, its words and their classes, and the special types
+pub record ImportStays (s s' : Session) : Type 0 where
+  pub source : s'.source ≡ s.source
+  pub words : s'.words.now ≡ s.words.now
+  pub tags : s'.tags.now ≡ s.tags.now
+  pub special : s'.special.now ≡ s.special.now
+
+-- a finish leaves the words of the source, their classes and where records start; refused, the source that is set, too
+pub record FinishStays (s : Session) (refusal : ℕ) (s' : Session) : Type 0 where
+  pub words : s'.words.now ≡ s.words.now
+  pub tags : s'.tags.now ≡ s.tags.now
+  pub starts : s'.derived.starts.now ≡ s.derived.starts.now
+  pub source : 0 < refusal → s'.source ≡ s.source
 
 -- ---- what follows a session that is finished: no source, nothing mapped, no special types and no sizes, in the same arrays
 abbrev pub renewed : Session → Session

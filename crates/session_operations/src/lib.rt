@@ -12,7 +12,7 @@ ghost use Rattle.derive_state.specs.Sizes.{going};
 ghost use Rattle.derive_finish.specs.Told.{refusal_of, bytes_in};
 ghost use Rattle.session_operations.specs.Operations.{MapSpanEnsures, RequiredEnsures};
 ghost use Rattle.session_operations.specs.Answers.{value_in, start_of, end_of};
-ghost use Rattle.session_operations.specs.Sessions.{is_set, offset_in, Absent, Valid, Operates, Finishes, renewed};
+ghost use Rattle.session_operations.specs.Sessions.{is_set, offset_in, Absent, Valid, Operates, Finishes, ImportStays, FinishStays, renewed};
 
 use base_handles::{RecordHandle, TypeHandle};
 use base_refusals::Refusal;
@@ -81,7 +81,9 @@ pub struct Session<'a, 'd> {
 // import_type, import_const, import_pipeline_override, import_global, import_global_expression: a record of the source. Its number in the derived module.
 pub fn import(session: &mut Session, handle: RecordHandle) -> Result<u32, Refusal>
     requires { Valid session.old }
-    ensures { Operates {A = ℕ} (importing (table_of handle) (number_in handle)) session.old (refusal_of result) (value_in result) session.new }
+    ensures operates { Operates {A = ℕ} (importing (table_of handle) (number_in handle)) session.old (refusal_of result) (value_in result) session.new }
+    ensures stays { ImportStays session.old session.new }
+    ensures stacks { session.new.stacks.now ≡ session.old.stacks.now }
 {
     let r = Reference {
         table: handle.section(),
@@ -96,7 +98,9 @@ pub fn import(session: &mut Session, handle: RecordHandle) -> Result<u32, Refusa
 // rename_type: imports type h under the name with the given number.
 pub fn rename_type(session: &mut Session, h: u32, name: u32) -> Result<u32, Refusal>
     requires { Valid session.old }
-    ensures { Operates {A = ℕ} (rename_type h name) session.old (refusal_of result) (value_in result) session.new }
+    ensures operates { Operates {A = ℕ} (rename_type h name) session.old (refusal_of result) (value_in result) session.new }
+    ensures stays { ImportStays session.old session.new }
+    ensures stacks { session.new.stacks.now ≡ session.old.stacks.now }
 {
     let r = Reference {
         table: TYPES,
@@ -124,7 +128,7 @@ pub struct Span {
     pub end: u32,
 }
 
-// map_span
+// map_span: a span of the source by the source's offset; (0, 0), which stands for no span, as it is.
 pub fn map_span(source: Option<SetSource>, a: u32, b: u32) -> Result<Span, Refusal>
     ensures { MapSpanEnsures (is_set source) (offset_in source) a b (refusal_of result) (start_of result) (end_of result) }
 {
@@ -138,7 +142,7 @@ pub fn map_span(source: Option<SetSource>, a: u32, b: u32) -> Result<Span, Refus
     })
 }
 
-// has_required_special_types
+// has_required_special_types: whether the derived module has a special type, an optional one or one of a pair.
 pub fn has_required_special_types(special: &Special, ends: Sizes) -> bool
     requires { Specials special.now (going ends) }
     ensures { RequiredEnsures special.now (going ends) result }
@@ -146,12 +150,13 @@ pub fn has_required_special_types(special: &Special, ends: Sizes) -> bool
     ends.pairs != 0 || special.has_ray()
 }
 
-// set_shader_source where no source is set: no source has to survive a refusal, so the image is read directly into the array of the source's words. What a
-// refused image left there is cleared.
+// set_shader_source where no source is set: no source has to survive a refusal, so the image is read directly into the array of the source's words. What an
+// image left there that intake refuses is cleared, since intake promises nothing of it; one that is accepted and does not fit stays there, where no source is set.
 fn set_first_source(session: &mut Session, image: &[u8], offset: u32) -> Result<(), Refusal>
     requires unset { is_set session.old.source ≡ false }
     requires valid { Valid session.old }
-    ensures { Operates {A = Unit {0}} (setOf (length image.now) (words_of image.now) offset) session.old (refusal_of result) tt session.new }
+    ensures operates { Operates {A = Unit {0}} (setOf (length image.now) (words_of image.now) offset) session.old (refusal_of result) tt session.new }
+    ensures stacks { session.new.stacks.now ≡ session.old.stacks.now }
 {
     let n = match intake::take_in(image, session.words, session.tags) {
         Ok(n) => n,
@@ -172,7 +177,8 @@ fn set_first_source(session: &mut Session, image: &[u8], offset: u32) -> Result<
 // set_shader_source: the image with the offset. A source that is set stays until the image is accepted and fits.
 pub fn set_shader_source(session: &mut Session, image: &[u8], offset: u32) -> Result<(), Refusal>
     requires { Valid session.old }
-    ensures { Operates {A = Unit {0}} (setOf (length image.now) (words_of image.now) offset) session.old (refusal_of result) tt session.new }
+    ensures operates { Operates {A = Unit {0}} (setOf (length image.now) (words_of image.now) offset) session.old (refusal_of result) tt session.new }
+    ensures stacks { session.new.stacks.now ≡ session.old.stacks.now }
 {
     if session.source.is_none() {
         return set_first_source(session, image, offset);
@@ -203,7 +209,10 @@ pub fn renew(session: &mut Session)
 // finish, without entry points: how many bytes were written. The session is then a new one; refused, it is as it was.
 pub fn finish_plain(session: &mut Session, output: &mut [u8]) -> Result<usize, Refusal>
     requires { Valid session.old }
-    ensures { Finishes (finishOf (length output.old)) session.old (refusal_of result) (bytes_in result) output.old output.new session.new }
+    ensures finishes { Finishes (finishOf (length output.old)) session.old (refusal_of result) (bytes_in result) output.old output.new session.new }
+    ensures stays { FinishStays session.old (refusal_of result) session.new }
+    ensures log { (session.new.derived.log.now ≡ session.old.derived.log.now) × (session.new.derived.logtags.now ≡ session.old.derived.logtags.now) × (session.new.derived.buckets.now ≡ session.old.derived.buckets.now) }
+    ensures stacks { session.new.stacks.now ≡ session.old.stacks.now }
 {
     let mut out = [0u32; 16384];
     let bytes = finish(

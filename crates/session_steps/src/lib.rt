@@ -1,5 +1,5 @@
-// One step of a session: its four words, an operation and its numbers, to the operation itself, and what that answers as three words. A refused step changes
-// nothing.
+// One step of a session: its four words, an operation and its numbers, to the operation itself, and what that answers: two values, or why it is refused. A refused
+// step changes nothing.
 #![tactic(auto)]
 
 ghost use Rattle.std.specs.Prelude.{◌≡◌, ◌+◌, ◌-◌, min};

@@ -4,7 +4,8 @@
 
 ghost use Rattle.std.specs.Prelude.{◌≡◌, length};
 ghost use Rattle.model.specs.Image.{IntakeEnsures, OrderEnsures, redirect_answer, RedirectEnsures, LinkEnsures, SessionEnsures, ScratchLengths};
-ghost use Rattle.redirect_bytes.specs.Answers.{shown, Small};
+ghost use Rattle.redirect_words.specs.Passes.{shown};
+ghost use Rattle.redirect_bytes.specs.Answers.{Small};
 ghost use Rattle.session.specs.Sessions.{as_number};
 
 use base_handles::FunctionHandle;

@@ -20,4 +20,4 @@ returns c =
     let within : n ≤ length starts = rw names.starts_long names.few in
     let cells = between a.source.image.tags.now a.source.image.words.now a.source.at a.source.end in
     let first = number_is a.derived.now.log.now a.derived.now.logtags.now starts cells n within c.find.result (first_is a.derived.now.log.now a.derived.now.logtags.now starts cells n within c.find.result (find_from_yields_List (is_alike a.derived.now.log.now a.derived.now.logtags.now starts cells n within) _ _ c.find.result c.find.ensures.ran (YieldsList-from_range 0 n n refl (omega arith)) (λ x b q k. search (rules, tests)))) in
-    rw c.unwrap_or.ensures (first.0, omega (arith, first.1, names.few))
+    (first.0, omega (arith, first.1, names.few))

@@ -1,4 +1,4 @@
-use mathlib.Core.Path.{refl}
+use mathlib.Core.Path.{refl, ◌∙◌}
 use native.Mathlib.Omega.{arith}
 use Rattle.derive_imports.proofs.Sources.{tape, stretch, refs_small}
 use Rattle.derive_lookup.proofs.Finds.{head_in, some_name, name_in_lem, name_few, knows}
@@ -26,8 +26,8 @@ invariant_of-find_name_from-clause-stretch c = let a = c.args in stretch a.image
 pub invariant_of-find_name_from-clause-small : goal.invariant_of-find_name_from-clause-small
 invariant_of-find_name_from-clause-small c = let a = c.args in refs_small a.image.words.now a.image.tags.now a.image.n c.requires.source 0 _ (omega arith) (name_in_lem a.image.words.now a.image.tags.now a.image.n c.requires.source c.requires.n_value a.f c.requires.f_bound _ c.record_at-s.ensures _ refl) _ _ c.record-at.ensures.0 c.record-at.ensures.1
 
-pub find_name_from-d-requires : goal.find_name_from-d-requires
-find_name_from-d-requires c = c.requires.bearing.names
+pub find_name_from-requires : goal.find_name_from-requires
+find_name_from-requires c = c.requires.bearing.names
 
 pub returns : goal.returns
-returns c = let a = c.args in knows a.image.words.now a.image.tags.now a.image.n c.requires.source c.requires.n_value a.f c.requires.f_bound _ c.record_at-s.ensures _ refl _ _ c.record-at.ensures.0 c.record-at.ensures.1 a.derived.now.log.now a.derived.now.logtags.now a.derived.now.starts.now (going a.derived.now.sizes) _ _ c.find_name_from-d.ensures.0 c.last.ensures
+returns c = let a = c.args in knows a.image.words.now a.image.tags.now a.image.n c.requires.source c.requires.n_value a.f c.requires.f_bound _ c.record_at-s.ensures _ refl _ _ c.record-at.ensures.0 c.record-at.ensures.1 a.derived.now.log.now a.derived.now.logtags.now a.derived.now.starts.now (going a.derived.now.sizes) _ _ (c.unwrap_or-d.ensures ∙ c.find_name_from.ensures.0) c.last.ensures

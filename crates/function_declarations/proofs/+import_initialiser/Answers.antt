@@ -18,7 +18,7 @@ pub loop-j-init : goal.loop-j-init
 loop-j-init t c = (along-begin c.requires.valid_arrays (cells_legible c.args.function.expressions c.requires.e_lt_k c.expression-piece.ensures.1 c.expression-piece.ensures.2) refl c.requires.under, arrays_same _)
 
 pub import_record-requires-clause-r_bound : goal.import_record-requires-clause-r_bound
-import_record-requires-clause-r_bound t c = let a = c.args in let l = c.loop-j in let inv = l.invariant.0 in let less = c.loop-j-test.true in let q = record_found (get_or a.function.source.image.tags.now l.j 0) (get_or a.function.source.image.words.now l.j 0) c.in-Some-Record.field-0-is c.in-Some-Record.ensures in (q.3, along_number c.requires.valid_arrays inv less refl q.1 q.2 q.0 q.3)
+import_record-requires-clause-r_bound t c = let a = c.args in let l = c.loop-j in let inv = l.invariant.0 in let less = c.loop-j-test.true in let q = record_found (get_or a.function.source.image.tags.now l.j 0) (get_or a.function.source.image.words.now l.j 0) c.in-Some-Record.field-0-is c.in-Some-Record.ensures in along_number c.requires.valid_arrays inv less refl q.1 q.2 q.0
 
 pub returns-in_err-got-in-Some-Record : goal.returns-in_err-got-in-Some-Record
 returns-in_err-got-in-Some-Record t c = let p = err_from_is_err_and c.from_residual.result c.from_residual.ensures.1 in rw (p.1, p.2) (record { does = let a = c.args in let l = c.loop-j in let inv = l.invariant.0 in let less = c.loop-j-test.true in let q = record_found (get_or a.function.source.image.tags.now l.j 0) (get_or a.function.source.image.words.now l.j 0) c.in-Some-Record.field-0-is c.in-Some-Record.ensures in unique_full c.args.function.expressions a.function.source.image.n a.function.source.offset refl c.requires.valid_arrays c.requires.under c.requires.e_lt_k c.if-exprmap-e-ne0.false c.expression-piece.ensures.1 c.expression-piece.ensures.2 inv less (along_record c.requires.valid_arrays inv less refl q.1 q.2 q.0 c.in_err-got-in-Some-Record.ensures.does) refl; same = arrays_then c.loop-j.invariant.1 c.in_err-got-in-Some-Record.ensures.same })

@@ -15,7 +15,7 @@ pub loop-j-init : goal.loop-j-init
 loop-j-init c = (let a = c.args in pass-first a.piece.source.image.words.now a.piece.source.image.tags.now a.piece.source.image.n a.piece.source.offset a.piece.at a.piece.end a.derived.now.log.now a.derived.now.logtags.now a.derived.now.starts.now a.derived.now.maps.now a.derived.now.buckets.now (going a.ends) c.requires.valid_arrays c.args.piece.legible refl, arrays_same _)
 
 pub import_record-requires-clause-r_bound : goal.import_record-requires-clause-r_bound
-import_record-requires-clause-r_bound c = let a = c.args in let l = c.loop-j in let q = record_found (get_or a.piece.source.image.tags.now l.j 0) (get_or a.piece.source.image.words.now l.j 0) c.in-Some-Record.field-0-is c.in-Some-Record.ensures in (q.3, pass_number a.piece.source.image.words.now a.piece.source.image.tags.now a.piece.source.image.n a.piece.source.offset a.piece.at a.piece.end a.derived.now.log.now a.derived.now.logtags.now a.derived.now.starts.now a.derived.now.maps.now a.derived.now.buckets.now (going a.ends) c.requires.valid_arrays l.derived.log.now l.derived.logtags.now l.derived.starts.now l.derived.maps.now l.derived.buckets.now (going l.e) l.j l.invariant.0 c.loop-j-test.true (get_or a.piece.source.image.tags.now l.j 0) refl q.0 _ _ q.1 q.2 q.3)
+import_record-requires-clause-r_bound c = let a = c.args in let l = c.loop-j in let q = record_found (get_or a.piece.source.image.tags.now l.j 0) (get_or a.piece.source.image.words.now l.j 0) c.in-Some-Record.field-0-is c.in-Some-Record.ensures in pass_number a.piece.source.image.words.now a.piece.source.image.tags.now a.piece.source.image.n a.piece.source.offset a.piece.at a.piece.end a.derived.now.log.now a.derived.now.logtags.now a.derived.now.starts.now a.derived.now.maps.now a.derived.now.buckets.now (going a.ends) c.requires.valid_arrays l.derived.log.now l.derived.logtags.now l.derived.starts.now l.derived.maps.now l.derived.buckets.now (going l.e) l.j l.invariant.0 c.loop-j-test.true (get_or a.piece.source.image.tags.now l.j 0) refl q.0 _ _ q.1 q.2
 
 pub returns-in_err-e-in-Some-Record : goal.returns-in_err-e-in-Some-Record
 returns-in_err-e-in-Some-Record c = let p = err_from_is_err_and c.from_residual.result c.from_residual.ensures.1 in rw (p.1, p.2) (record { does = let a = c.args in let l = c.loop-j in let q = record_found (get_or a.piece.source.image.tags.now l.j 0) (get_or a.piece.source.image.words.now l.j 0) c.in-Some-Record.field-0-is c.in-Some-Record.ensures in pass_full a.piece.source.image.words.now a.piece.source.image.tags.now a.piece.source.image.n a.piece.source.offset a.piece.at a.piece.end a.derived.now.log.now a.derived.now.logtags.now a.derived.now.starts.now a.derived.now.maps.now a.derived.now.buckets.now (going a.ends) c.requires.valid_arrays l.derived.log.now l.derived.logtags.now l.derived.starts.now l.derived.maps.now l.derived.buckets.now (going l.e) l.j l.invariant.0 c.loop-j-test.true (get_or a.piece.source.image.tags.now l.j 0) refl q.0 _ _ q.1 q.2 _ _ _ _ _ _ c.in_err-e-in-Some-Record.ensures.does refl; same = arrays_then c.loop-j.invariant.1 c.in_err-e-in-Some-Record.ensures.same })

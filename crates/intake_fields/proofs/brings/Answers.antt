@@ -18,11 +18,11 @@ returns-then-most-w c = search (brings_none, rules)
 
 pub overflow_add-from : goal.overflow_add-from
 unfolding SIZE
-overflow_add-from c = let h = in_group c.args.s c.args.w _ _ c.requires.le_s.0 c.requires.le_s.1 c.pair-from.ensures.row_or_group c.pair-from.ensures.limit_or_count c.if-s-lt-TYPE_KIND.false c.if-s-eq-BLOCK.false c.if-s-eq-CASES.false c.requires.fact c.if-most-w.false in omega arith
+overflow_add-from c = let h = in_group c.args.s c.args.w _ _ c.requires.le_s.0 c.requires.le_s.1 c.pair-from.ensures.row_or_group c.pair-from.ensures.limit_or_count c.if-s-lt-TYPE_KIND.false c.if-s-eq-BLOCK.false c.if-s-eq-CASES.false c.requires.not_length c.if-most-w.false in omega arith
 
 pub entry-requires : goal.entry-requires
 unfolding SIZE
 entry-requires c = search (in_group, rules)
 
 pub returns : goal.returns
-returns c = brings_row c.args.s c.args.w _ _ c.requires.le_s.0 c.requires.le_s.1 c.pair-from.ensures.row_or_group c.pair-from.ensures.limit_or_count c.if-s-lt-TYPE_KIND.false c.if-s-eq-BLOCK.false c.if-s-eq-CASES.false c.requires.fact c.from.result (c.from.ensures ∙ c.entry.ensures) c.if-most-w.false
+returns c = brings_row c.args.s c.args.w _ _ c.requires.le_s.0 c.requires.le_s.1 c.pair-from.ensures.row_or_group c.pair-from.ensures.limit_or_count c.if-s-lt-TYPE_KIND.false c.if-s-eq-BLOCK.false c.if-s-eq-CASES.false c.requires.not_length c.from.result (c.from.ensures ∙ c.entry.ensures) c.if-most-w.false

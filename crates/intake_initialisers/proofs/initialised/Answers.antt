@@ -1,10 +1,7 @@
-use Rattle.std.proofs.Common.{rules}
 use mathlib.Core.Path.{refl}
-use Prim.Native.Nat.{ℕ}
 use native.Mathlib.Omega.{arith}
-use lib.ListN.{length-replicate}
 use Rattle.intake_initialisers.proofs.Visiting.{found_numbers}
-use Rattle.intake_initialisers.proofs.Reaching.{init_locals, init_exprs, init-after, init-end, init-count, init_most, init-empty, init_few, room_first, none_visited, init-none, init_reach, init_done}
+use Rattle.intake_initialisers.proofs.Reaching.{init_locals, init_exprs, init-after, init-end, init-count, init_most, init-empty, init_few, init-none, init_reach, init_done}
 use Rattle.intake_initialisers.proofs.initialised.Goals as goal
 
 pub offset_bounds-image-locals : goal.offset_bounds-image-locals
@@ -25,14 +22,14 @@ returns-then-count-eq0 c = init-empty _ _ _ _ _ c.requires _ _ refl refl c.if-co
 pub overflow_add-locals : goal.overflow_add-locals
 overflow_add-locals c = omega (arith, init_locals _ _ _ _ _ c.requires)
 
-pub invariant_of-visited : goal.invariant_of-visited
-invariant_of-visited c = record { room = room_first _ _ _ (search rules) (length-replicate {A = ℕ} 1024 0) }
+pub new-visited-requires : goal.new-visited-requires
+new-visited-requires c = init_most _ _ _ _ _ c.requires _ _ refl refl
 
 pub roots-requires : goal.roots-requires
-roots-requires c = record { words_len = c.requires.lists.long.words_long; locals_bound = init-count _ _ _ _ _ c.requires _ _ refl refl; few = init_most _ _ _ _ _ c.requires _ _ refl refl }
+roots-requires c = record { words_len = c.requires.lists.long.words_long; locals_bound = init-count _ _ _ _ _ c.requires _ _ refl refl }
 
 pub returns-then-visited-eq0 : goal.returns-then-visited-eq0
-returns-then-visited-eq0 c = init-none _ _ _ _ _ c.requires _ _ refl refl _ none_visited _ c.roots.ensures c.if-visited-eq0.true
+returns-then-visited-eq0 c = init-none _ _ _ _ _ c.requires _ _ refl refl _ c.new-visited.ensures _ c.roots.ensures c.if-visited-eq0.true
 
 pub overflow_add-exprs : goal.overflow_add-exprs
 overflow_add-exprs c = omega (arith, init_exprs _ _ _ _ _ c.requires)
@@ -41,7 +38,7 @@ pub places-requires : goal.places-requires
 places-requires c = (omega arith, (c.requires.lists.long.tags_long, (init-after _ _ _ _ _ c.requires, (init-end _ _ _ _ _ c.requires, init_few _ _ _ _ _ c.requires _ _ refl refl))))
 
 pub reach-requires : goal.reach-requires
-reach-requires c = init_reach _ _ _ _ _ c.requires _ _ refl refl _ none_visited _ c.roots.ensures _ (found_numbers c.places.ensures)
+reach-requires c = init_reach _ _ _ _ _ c.requires _ _ refl refl _ c.new-visited.ensures _ c.roots.ensures _ (found_numbers c.places.ensures)
 
 pub returns : goal.returns
-returns c = init_done _ _ _ _ _ c.requires _ _ refl refl _ none_visited _ c.roots.ensures _ (found_numbers c.places.ensures) _ _ c.reach.ensures
+returns c = init_done _ _ _ _ _ c.requires _ _ refl refl _ c.new-visited.ensures _ c.roots.ensures _ (found_numbers c.places.ensures) _ _ c.reach.ensures

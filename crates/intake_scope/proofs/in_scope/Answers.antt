@@ -1,13 +1,6 @@
-use Rattle.std.proofs.Common.{rules}
-use Prim.Native.Nat.{ℕ}
-use lib.ListN.{length-replicate}
-use Rattle.intake_initialisers.proofs.Reaching.{room_first}
 use Rattle.intake_scope.proofs.Images.{image_functions, image_entries}
 use Rattle.intake_scope.specs.Functions.{of_functions, of_entries}
 use Rattle.intake_scope.proofs.in_scope.Goals as goal
-
-pub invariant_of-scratch : goal.invariant_of-scratch
-invariant_of-scratch c = record { room = room_first 0 _ _ (search rules) (length-replicate {A = ℕ} 1024 0) }
 
 pub section-requires-clause-section : goal.section-requires-clause-section
 section-requires-clause-section c = of_functions

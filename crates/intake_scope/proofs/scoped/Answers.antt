@@ -28,11 +28,11 @@ places-requires c = let e = known_ends _ _ _ _ _ c.requires in (omega arith, (c.
 pub overflow_add-locals : goal.overflow_add-locals
 overflow_add-locals c = let h = known_low _ _ _ _ _ c.requires in search rules
 
+pub begin-requires : goal.begin-requires
+begin-requires c = known_few _ _ _ _ _ c.requires _ _ refl refl
+
 pub roots-requires-clause-locals_bound : goal.roots-requires-clause-locals_bound
 roots-requires-clause-locals_bound c = init-count _ _ _ _ _ (known-listed _ _ _ _ _ c.requires) _ _ refl refl
-
-pub roots-requires-clause-few : goal.roots-requires-clause-few
-roots-requires-clause-few c = let h = known_few _ _ _ _ _ c.requires _ _ refl refl in omega (arith, h, c.begin.ensures.count_is)
 
 pub reach-requires : goal.reach-requires
 reach-requires c = known_reach _ _ _ _ _ c.requires _ _ refl refl c.args.scratch.now.starts (omega arith) _ (found_numbers c.places.ensures) _ c.begin.ensures _ c.roots.ensures

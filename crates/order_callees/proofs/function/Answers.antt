@@ -4,7 +4,7 @@ use Rattle.order_callees.proofs.Whole.{asks, calls-these}
 use Rattle.order_callees.proofs.function.Goals as goal
 
 pub mark_callees-requires : goal.mark_callees-requires
-mark_callees-requires c = asks c.requires.framed c.requires.i_bound (omega arith) c.start_of-from.ensures.0 c.end_of-to.ensures.0
+mark_callees-requires c = asks c.requires.tape.taped c.requires.known c.requires.i_bound (omega arith) c.record-at.ensures.0 c.record-at.ensures.1
 
 pub returns : goal.returns
-returns c = calls-these _ _ c.start_of-from.ensures.0 c.end_of-to.ensures.0 c.mark_callees.ensures
+returns c = calls-these _ _ c.record-at.ensures.0 c.record-at.ensures.1 c.mark_callees.ensures

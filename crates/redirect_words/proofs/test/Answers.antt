@@ -2,7 +2,7 @@ use borrow.Author.Tests.{not-true, not-false}
 use mathlib.Core.Bool.{not}
 use mathlib.Core.Path.{ap}
 use Rattle.std.proofs.lemmas.Result.{err_from_is_err_and}
-use Rattle.redirect_words.proofs.Testing.{names_told, found_in, not_found, test-outside, test_original, test_replacement, test_compared}
+use Rattle.redirect_words.proofs.Testing.{names_told, found_in, not_found, test-outside, test_original, test_replacement, test_differ, test_agree}
 use Rattle.base_refusals.specs.declared.Refusal.TheVariants.{OriginalNotFound, ReplacementNotFound}
 use Rattle.redirect_words.proofs.test.Goals as goal
 
@@ -21,9 +21,14 @@ returns-in_err-b c =
     let q = not_found _ ReplacementNotFound _ _ c.ok_or-2.ensures.value c.in_err-b.was in
     rw (p.1, p.2, q.1) (test_replacement _ _ _ _ _ _ _ (names_told _ _ _ _ c.inside.ensures c.count.ensures.0) (not-false _ (ap not c.if-not-inside.false)) _ c.find.ensures _ c.in_ok-a.ensures.ok_part _ c.find-2.ensures q.0)
 
-pub compare-requires-clause-original_bound : goal.compare-requires-clause-original_bound
-compare-requires-clause-original_bound c =
+pub compare-requires-clause-bounds : goal.compare-requires-clause-bounds
+compare-requires-clause-bounds c =
     (found_in _ _ _ _ c.requires _ _ c.in_ok-a.ensures.ok_part c.find.ensures, found_in _ _ _ _ c.requires _ _ c.in_ok-b.ensures.ok_part c.find-2.ensures)
 
+pub returns-in_err-compare : goal.returns-in_err-compare
+returns-in_err-compare c =
+    let p = err_from_is_err_and c.from_residual-in_err-compare.result c.from_residual-in_err-compare.ensures.1 in
+    rw (p.1, p.2) (test_differ _ _ _ _ _ _ _ (names_told _ _ _ _ c.inside.ensures c.count.ensures.0) (not-false _ (ap not c.if-not-inside.false)) _ c.find.ensures _ c.in_ok-a.ensures.ok_part _ c.find-2.ensures _ c.in_ok-b.ensures.ok_part _ c.in_err-compare.ensures)
+
 pub returns : goal.returns
-returns c = test_compared _ _ _ _ _ _ _ (names_told _ _ _ _ c.inside.ensures c.count.ensures.0) (not-false _ (ap not c.if-not-inside.false)) _ c.find.ensures _ c.in_ok-a.ensures.ok_part _ c.find-2.ensures _ c.in_ok-b.ensures.ok_part _ c.compare.ensures
+returns c = test_agree _ _ _ _ _ _ _ (names_told _ _ _ _ c.inside.ensures c.count.ensures.0) (not-false _ (ap not c.if-not-inside.false)) _ c.find.ensures _ c.in_ok-a.ensures.ok_part _ c.find-2.ensures _ c.in_ok-b.ensures.ok_part _ c.in_ok-compare.ensures

@@ -13,8 +13,8 @@ use Rattle.session_operations.proofs.import.Goals as goal
 pub source_with-requires : goal.source_with-requires
 source_with-requires c = omega (arith, (section_low c.args.handle _ c.section.ensures).1)
 
-pub returns-in_err-source : goal.returns-in_err-source
-returns-in_err-source c =
+pub returns-in_err-source-clause-operates : goal.returns-in_err-source-clause-operates
+returns-in_err-source-clause-operates c =
     let p = err_from_is_err_and c.from_residual.result c.from_residual.ensures.1 in
     let a = c.args in
     elim c.in_err-source.ensures [
@@ -28,11 +28,11 @@ import-requires-clause-source c = let L = rw c.in_ok-source.ensures.0 at c.requi
 pub import-requires-clause-number_bound : goal.import-requires-clause-number_bound
 import-requires-clause-number_bound c = rw c.in_ok-source.ensures.1 ((section_low c.args.handle _ c.section.ensures).1, c.in_ok-source.ensures.3)
 
-pub returns-in_err-sizes : goal.returns-in_err-sizes
-returns-in_err-sizes c = let p = err_from_is_err_and c.from_residual-in_err-sizes.result c.from_residual-in_err-sizes.ensures.1 in let o = c.in_ok-source.ensures in let a = c.args in let L = rw c.in_ok-source.ensures.0 at c.requires.session in let zz = import_full _ _ _ _ _ _ _ _ _ _ _ c.section.result c.number.result (section_low c.args.handle _ c.section.ensures).0 (section_low c.args.handle _ c.section.ensures).1 _ _ _ _ _ _ true L refl c.in_ok-source.ensures.3 (rw o.1 at c.in_err-sizes.ensures.does) refl in rw (p.1, p.2, ← section_is c.args.handle _ c.section.ensures, ← c.number.ensures) (record { does = rw c.in_ok-source.ensures.0 zz.0; valid = record { session = rw c.in_ok-source.ensures.0 zz.1; stacks = c.requires.stacks }; same = record { words_same = refl; tags_same = refl; derived_same = c.import.ensures.same; special_same = refl; stacks_same = refl } })
+pub returns-in_err-sizes-clause-operates : goal.returns-in_err-sizes-clause-operates
+returns-in_err-sizes-clause-operates c = let p = err_from_is_err_and c.from_residual-in_err-sizes.result c.from_residual-in_err-sizes.ensures.1 in let o = c.in_ok-source.ensures in let a = c.args in let L = rw c.in_ok-source.ensures.0 at c.requires.session in let zz = import_full _ _ _ _ _ _ _ _ _ _ _ c.section.result c.number.result (section_low c.args.handle _ c.section.ensures).0 (section_low c.args.handle _ c.section.ensures).1 _ _ _ _ _ _ true L refl c.in_ok-source.ensures.3 (rw o.1 at c.in_err-sizes.ensures.does) refl in rw (p.1, p.2, ← section_is c.args.handle _ c.section.ensures, ← c.number.ensures) (record { does = rw c.in_ok-source.ensures.0 zz.0; valid = record { session = rw c.in_ok-source.ensures.0 zz.1; stacks = c.requires.stacks }; same = record { words_same = refl; tags_same = refl; derived_same = c.import.ensures.same; special_same = refl; stacks_same = refl } })
 
 pub mapped_to-requires : goal.mapped_to-requires
 mapped_to-requires c = let a = c.args in let L = rw c.in_ok-source.ensures.0 at c.requires.session in ((section_low c.args.handle _ c.section.ensures).1, small_number _ _ _ (source-held _ _ _ _ _ _ _ _ _ _ _ true L refl) c.section.result c.number.result (section_low c.args.handle _ c.section.ensures).1 c.in_ok-source.ensures.3)
 
-pub returns : goal.returns
-returns c = let o = c.in_ok-source.ensures in let a = c.args in let L = rw c.in_ok-source.ensures.0 at c.requires.session in let v = c.view.ensures in let zz = import_room _ _ _ _ _ _ _ _ _ _ _ c.section.result c.number.result (section_low c.args.handle _ c.section.ensures).0 (section_low c.args.handle _ c.section.ensures).1 _ _ _ _ _ _ true L refl c.in_ok-source.ensures.3 (rw o.1 at c.in_ok-sizes.ensures.does) refl _ (rw v.3 at c.mapped_to.ensures) in rw (← section_is c.args.handle _ c.section.ensures, ← c.number.ensures) (record { does = rw c.in_ok-source.ensures.0 zz.0; valid = record { session = rw c.in_ok-source.ensures.0 zz.1; stacks = stacks_low c.requires.stacks zz.1.lowest }; same = record { words_same = refl; tags_same = refl; derived_same = c.import.ensures.same; special_same = refl; stacks_same = refl } })
+pub returns-clause-operates : goal.returns-clause-operates
+returns-clause-operates c = let o = c.in_ok-source.ensures in let a = c.args in let L = rw c.in_ok-source.ensures.0 at c.requires.session in let v = c.view.ensures in let zz = import_room _ _ _ _ _ _ _ _ _ _ _ c.section.result c.number.result (section_low c.args.handle _ c.section.ensures).0 (section_low c.args.handle _ c.section.ensures).1 _ _ _ _ _ _ true L refl c.in_ok-source.ensures.3 (rw o.1 at c.in_ok-sizes.ensures.does) refl _ (rw v.3 at c.mapped_to.ensures) in rw (← section_is c.args.handle _ c.section.ensures, ← c.number.ensures) (record { does = rw c.in_ok-source.ensures.0 zz.0; valid = record { session = rw c.in_ok-source.ensures.0 zz.1; stacks = stacks_low c.requires.stacks zz.1.lowest }; same = record { words_same = refl; tags_same = refl; derived_same = c.import.ensures.same; special_same = refl; stacks_same = refl } })

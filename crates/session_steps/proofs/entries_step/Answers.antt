@@ -4,10 +4,10 @@ use Rattle.session_steps.proofs.Parts.{entries_wrote, entries_small}
 use Rattle.session_steps.proofs.entries_step.Goals as goal
 
 pub overflow_cast-result : goal.overflow_cast-result
-overflow_cast-result c = let x = c.args.step in let w = c.well_formed in let h = entries_small x.a x.b c.args.output.now _ _ c.part-from.ensures _ _ _ _ _ c.in_ok-bytes.ensures.does in omega (arith, h, w)
+overflow_cast-result c = let x = c.args.step in let w = c.well_formed in let h = entries_small x.a x.b c.args.output.now _ _ c.part-from.ensures _ _ _ _ _ c.in_ok-bytes.ensures.finishes.does in omega (arith, h, w)
 
 pub returns-clause-wrote : goal.returns-clause-wrote
-returns-clause-wrote c = let x = c.args.step in entries_wrote x.a x.b c.args.output.now _ _ c.part-from.ensures _ _ _ _ _ x.c c.in_ok-bytes.ensures.does
+returns-clause-wrote c = let x = c.args.step in entries_wrote x.a x.b c.args.output.now _ _ c.part-from.ensures _ _ _ _ _ x.c c.in_ok-bytes.ensures.finishes.does
 
 pub returns-in_err-bytes-clause-wrote : goal.returns-in_err-bytes-clause-wrote
-returns-in_err-bytes-clause-wrote c = let x = c.args.step in let p = err_from_is_err_and c.from_residual.result c.from_residual.ensures.1 in rw (p.1, p.2) (entries_wrote x.a x.b c.args.output.now _ _ c.part-from.ensures _ _ _ _ _ x.c c.in_err-bytes.ensures.does)
+returns-in_err-bytes-clause-wrote c = let x = c.args.step in let p = err_from_is_err_and c.from_residual.result c.from_residual.ensures.1 in rw (p.1, p.2) (entries_wrote x.a x.b c.args.output.now _ _ c.part-from.ensures _ _ _ _ _ x.c c.in_err-bytes.ensures.finishes.does)

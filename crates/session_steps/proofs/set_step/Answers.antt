@@ -4,7 +4,7 @@ use Rattle.session_steps.proofs.Parts.{part-mid}
 use Rattle.session_steps.proofs.set_step.Goals as goal
 
 pub returns-clause-quiet : goal.returns-clause-quiet
-returns-clause-quiet c = let x = c.args.step in let l = c.args.sources.now in set-quiet x.a x.b x.c l _ _ _ _ (part-mid x.a x.b l _ _ c.part-from.ensures) c.in_ok-set_shader_source.ensures.does
+returns-clause-quiet c = let x = c.args.step in let l = c.args.sources.now in set-quiet x.a x.b x.c l _ _ _ _ (part-mid x.a x.b l _ _ c.part-from.ensures) c.in_ok-set_shader_source.ensures.operates.does
 
 pub returns-in_err-set_shader_source-clause-quiet : goal.returns-in_err-set_shader_source-clause-quiet
-returns-in_err-set_shader_source-clause-quiet c = let x = c.args.step in let l = c.args.sources.now in let p = err_from_is_err_and c.from_residual.result c.from_residual.ensures.1 in rw (p.1, p.2) (set-quiet x.a x.b x.c l _ _ _ _ (part-mid x.a x.b l _ _ c.part-from.ensures) c.in_err-set_shader_source.ensures.does)
+returns-in_err-set_shader_source-clause-quiet c = let x = c.args.step in let l = c.args.sources.now in let p = err_from_is_err_and c.from_residual.result c.from_residual.ensures.1 in rw (p.1, p.2) (set-quiet x.a x.b x.c l _ _ _ _ (part-mid x.a x.b l _ _ c.part-from.ensures) c.in_err-set_shader_source.ensures.operates.does)

@@ -1,6 +1,7 @@
 -- Both numbers are below 65,536, so they have room in one word.
 use mathlib.Core.Path.{subst}
-use Rattle.redirect_bytes.specs.Answers.{Small, shown}
+use Rattle.redirect_words.specs.Passes.{shown}
+use Rattle.redirect_bytes.specs.Answers.{Small}
 use Rattle.wuldgisp.proofs.Numbers.{times_fits, number_fits, number_is}
 use Rattle.std.specs.Prelude.{Ok}
 use Rattle.std.proofs.Common.{rules}

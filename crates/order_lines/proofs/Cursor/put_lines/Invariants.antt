@@ -1,4 +1,4 @@
-use Rattle.order_lines.specs.Lines.{SameBuffer}
+use Rattle.order_lines.specs.Cursors.{SameBuffer}
 use Rattle.order_lines.proofs.Joining.{Going}
 use Rattle.order_lines.proofs.Cursor.put_lines.Given as goal
 

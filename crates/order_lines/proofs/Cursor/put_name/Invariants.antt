@@ -4,4 +4,4 @@ use Rattle.order_lines.proofs.Bytes.{Putting}
 use Rattle.order_lines.proofs.Cursor.put_name.Given as goal
 
 abbrev pub invariant-loop-k : goal.invariant-loop-k
-invariant-loop-k l = Putting (text_at l.words l.p) l.initial.out l.at l.k l.out
+invariant-loop-k l = Putting (text_at l.words l.p) l.k l.name

@@ -1,5 +1,5 @@
 use native.Mathlib.Omega.{arith}
-use Rattle.intake_initialisers.proofs.Reaching.{reach_begin, reach_done, reach_this, reach_list, reach_start, reach_at, reach_barred, reach_rising, reach_small, reach_less, reach_next}
+use Rattle.intake_initialisers.proofs.Reaching.{reach_begin, reach_done, reach_list, reach_start, reach_at, reach_barred, reach_rising, reach_small, reach_less, reach_next}
 use mathlib.Core.Bool.{not}
 use mathlib.Core.Path.{refl, ap}
 use Rattle.intake_initialisers.proofs.visited.Visited.reach.Goals as goal
@@ -30,9 +30,6 @@ spread-requires-clause-at_le_end c = reach_rising _ _ _ _ _ c.loop-self.invarian
 
 pub spread-requires-clause-end_bound : goal.spread-requires-clause-end_bound
 spread-requires-clause-end_bound c = reach_small _ _ _ _ _ c.loop-self.invariant c.requires c.loop-self-test.true _ refl _ refl _ c.constant.ensures (ap not c.if-not-constant.false) _ refl
-
-pub spread-requires-clause-few : goal.spread-requires-clause-few
-spread-requires-clause-few c = (reach_this _ _ _ _ _ c.loop-self.invariant c.requires c.loop-self-test.true).few
 
 pub loop-self-smaller : goal.loop-self-smaller
 loop-self-smaller c = reach_less _ _ _ _ _ c.loop-self.invariant c.requires c.loop-self-test.true _ refl _ refl _ c.constant.ensures (ap not c.if-not-constant.false) _ refl _ _ c.spread.ensures

@@ -13,7 +13,7 @@ pub bounds-self-self : goal.bounds-self-self
 bounds-self-self c = search (visit_room, rules)
 
 pub invariant_of-self : goal.invariant_of-self
-invariant_of-self c = record { room = visit_left c.args.self.now c.requires _ c.if-self-place.false c.if-self-place-2.false }
+invariant_of-self c = record { room = visit_left c.args.self.now _ c.if-self-place.false c.if-self-place-2.false }
 
 pub returns : goal.returns
 returns c = search (visit_push, rules)
