@@ -4,6 +4,7 @@ use Rattle.model.specs.Tables.{Tab, types, constants, overrides, globals, exprs}
 use Rattle.base_handles.specs.declared.RecordHandle.{RecordHandle}
 use Rattle.base_handles.specs.declared.RecordHandle.TheVariants.{«Type», Constant, Override, Global, Expression}
 
+-- the table of its type
 abbrev pub table_of : RecordHandle → Tab
 table_of («Type» h) = types
 table_of (Constant h) = constants
@@ -11,6 +12,7 @@ table_of (Override h) = overrides
 table_of (Global h) = globals
 table_of (Expression h) = exprs
 
+-- the number in that table
 abbrev pub number_in : RecordHandle → ℕ
 number_in («Type» h) = h.0
 number_in (Constant h) = h.0

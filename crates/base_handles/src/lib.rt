@@ -1,4 +1,6 @@
-// One handle for each table: a record's number in its table, of a type of its own, so that a number of one table is not taken for one of another.
+// Handles of records: the record's number in its table, of a type of its own for each table, so that a number of one table is not taken for one of another. Names and entry points
+// have none. A struct for each, and no `Handle<T>`: that would take six more types to tell the tables, and a field `PhantomData<T>` that each place which makes a handle has to
+// give, as in `Handle(j, PhantomData)`.
 #![tactic(auto)]
 
 ghost use Rattle.std.specs.Prelude.{◌≡◌};

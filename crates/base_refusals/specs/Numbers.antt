@@ -4,6 +4,7 @@ use Rattle.model.specs.Refusals.{BAD_SIZE, BAD_LAYOUT, BAD_RANGE, BAD_REFERENCE,
 use Rattle.base_refusals.specs.declared.Refusal.{Refusal}
 use Rattle.base_refusals.specs.declared.Refusal.TheVariants as refusal
 
+-- the number that stands for a refusal
 abbrev pub number_of : Refusal → ℕ
 number_of refusal.BadSize = BAD_SIZE
 number_of refusal.BadLayout = BAD_LAYOUT
@@ -32,6 +33,7 @@ abbrev pub refused_by : {A : Type 0} → Refusal → Ended A
 refused_by (refusal.Ring left) = ringed left
 refused_by e = refused (number_of e)
 
+-- how what gives a result ended: with its value, or with the refusal
 abbrev pub ended : {A : Type 0} → Result A Refusal → Ended A
 ended (Ok a) = done a
 ended (Err e) = refused_by e

@@ -1,5 +1,5 @@
 // An image that is laid out, and where the parts of a module are in its words: sections and their records, by header and offsets; the lists of a function, by the counts before
-// them. The one home of these places in code.
+// them.
 #![tactic(auto)]
 
 ghost use Rattle.std.specs.Prelude.{◌≡◌, ◌+◌, ◌*◌, ◌^◌, ◌≤◌, ◌<◌, get_or};
@@ -7,11 +7,14 @@ ghost use Rattle.model.specs.Module.{limits, count_at, offset_at};
 ghost use Rattle.model.specs.View.{record_at, record_end};
 ghost use Rattle.model.specs.FunctionView.{entry_head_words, arguments_at, argument_at, returns_at, locals_at, local_at, expressions_at};
 ghost use Rattle.model.specs.Between.{Long};
-ghost use Rattle.model.specs.Taped.{Tape};
 ghost use Rattle.base_views.specs.Functions.{Standing, Named, Body};
+ghost use Rattle.base_views.specs.LaidOut.{LaidOut};
 
 use base_classes::NAMED;
 use base_words::{Tags, Words};
+
+// The edition of the format, which is the first word.
+pub const EDITION: u32 = 1;
 
 // The header: section k has its count at the word COUNTS + 2 k, and its offset at the word OFFSETS + 2 k.
 pub const COUNTS: usize = 2;
@@ -20,7 +23,8 @@ pub const OFFSETS: usize = 3;
 
 pub const HEADER: usize = 20;
 
-// The sections by number: eight tables, and the special types. Numbers and no enum, since they are rows of arrays that loops count through.
+// The sections by number: eight tables, and the special types. Numbers and no enum: they are rows of `Starts`, `Maps`, a snapshot and the counts of `Sizes`, and loops go through
+// all of these by `0..8`, so that an enum would be cast at each row and made of a number at each turn. Hence the clauses `k < 9` of a section and `k < 8` of a table.
 pub const NAMES: usize = 0;
 
 pub const TYPES: usize = 1;
@@ -49,14 +53,22 @@ pub const MOST_ENTRIES: usize = 16;
 // The words in front of an entry point's function.
 pub const ENTRY_HEAD: usize = 7;
 
-// A module that is laid out: words, the class of each, and how many of them are the module's. That they hold a module, which is `Tape`, stays a clause of contracts:
-// a ghost field says a proposition, and `Tape` has the module as a field.
+// Words, and the class of each.
+#[derive(Clone, Copy)]
+pub struct Cells<'a> {
+    pub words: &'a Words,
+    pub tags: &'a Tags,
+    pub ghost long: { Long words.now tags.now },
+}
+
+// An image that is laid out: words that hold a module, the class of each, and how many they are.
 #[derive(Clone, Copy)]
 pub struct Image<'a> {
     pub words: &'a Words,
     pub tags: &'a Tags,
     pub n: usize,
     pub ghost long: { Long words.now tags.now },
+    pub ghost laid_out: { LaidOut words.now tags.now n },
 }
 
 // How many records section k may have.
@@ -115,8 +127,12 @@ pub fn pair_at(words: &Words, j: usize) -> usize
     offset(words, SPECIAL) + 3 + 2 * j
 }
 
-// The parts of a function that starts at s and whose expressions begin inside the words. Lists have their counts in front: arguments, locals,
-// expressions, named expressions and the statements of the body. The result is 0, or 1 and its fields.
+// What follows is where the parts of a function are that starts at s and whose expressions begin inside the words: its arguments, its result, locals, expressions, named
+// expressions and the statements of its body. Lists have their counts in front. The result is optional: the word 0 where there is none, and else the word 1 and its fields.
+// `words` and `s` are two parameters and no struct: of the seven functions that ask for such places, five ask for one, and `FunctionAt { words, s }.expressions_at()` says no
+// more than `expressions_at(words, s)`.
+
+// Where the list of arguments is.
 pub fn arguments_at(s: usize) -> usize
     requires { s < 16384 }
     ensures { result ≡ arguments_at s }
@@ -132,7 +148,7 @@ pub fn arguments(words: &Words, s: usize) -> usize
     words[arguments_at(s)] as usize
 }
 
-// Argument i.
+// Where argument i is.
 pub fn argument_at(s: usize, i: usize) -> usize
     requires { argument_at s i < 16384 }
     ensures { result ≡ argument_at s i }
@@ -140,6 +156,7 @@ pub fn argument_at(s: usize, i: usize) -> usize
     s + 4 + 8 * i
 }
 
+// Where the result is.
 pub fn returns_at(words: &Words, s: usize) -> usize
     requires { expressions_at s words.now < 16384 }
     ensures { (result ≡ returns_at s words.now) × (result < 16384) }
@@ -147,6 +164,7 @@ pub fn returns_at(words: &Words, s: usize) -> usize
     argument_at(s, arguments(words, s))
 }
 
+// Where the list of locals is.
 pub fn locals_at(words: &Words, s: usize) -> usize
     requires { expressions_at s words.now < 16384 }
     ensures { (result ≡ locals_at s words.now) × (result < 16384) }
@@ -155,7 +173,7 @@ pub fn locals_at(words: &Words, s: usize) -> usize
     at + 1 + 7 * words[at] as usize
 }
 
-// Local i.
+// Where local i is.
 pub fn local_at(words: &Words, s: usize, i: usize) -> usize
     requires words_bound { expressions_at s words.now < 16384 }
     requires words_bound_2 { local_at s i words.now < 16384 }
@@ -164,6 +182,7 @@ pub fn local_at(words: &Words, s: usize, i: usize) -> usize
     locals_at(words, s) + 1 + 5 * i
 }
 
+// Where the list of expressions is.
 pub fn expressions_at(words: &Words, s: usize) -> usize
     requires { expressions_at s words.now < 16384 }
     ensures { (result ≡ expressions_at s words.now) × (result < 16384) }
@@ -172,10 +191,19 @@ pub fn expressions_at(words: &Words, s: usize) -> usize
     at + 1 + 5 * words[at] as usize
 }
 
-impl Image<'_> {
-    // Where record j of section k starts, of an image that holds a module.
+impl<'a> Image<'a> {
+    // Its words and their classes.
+    pub fn cells(self) -> Cells<'a>
+        ensures { (result.words ≡ self.entry.words) × (result.tags ≡ self.entry.tags) }
+    {
+        Cells {
+            words: self.words,
+            tags: self.tags,
+        }
+    }
+
+    // Where record j of section k starts.
     pub fn record_at(self, k: usize, j: usize) -> usize
-        requires tape { Tape self.words.now self.tags.now self.n }
         requires k_bound { k < 8 }
         requires j_bound { j < count_at k self.words.now }
         ensures { result ≡ record_at k j self.entry.words.now }
@@ -185,7 +213,6 @@ impl Image<'_> {
 
     // Where it ends.
     pub fn record_end(self, k: usize, j: usize) -> usize
-        requires tape { Tape self.words.now self.tags.now self.n }
         requires k_bound { k < 8 }
         requires j_bound { j < count_at k self.words.now }
         ensures { result ≡ record_end k j self.entry.words.now }
@@ -195,7 +222,6 @@ impl Image<'_> {
 
     // Where it starts and where it ends.
     pub fn record(self, k: usize, j: usize) -> (usize, usize)
-        requires tape { Tape self.words.now self.tags.now self.n }
         requires k_bound { k < 8 }
         requires j_bound { j < count_at k self.words.now }
         ensures { (result.0 ≡ record_at k j self.entry.words.now) × (result.1 ≡ record_end k j self.entry.words.now) }
@@ -205,13 +231,14 @@ impl Image<'_> {
 
     // Where the function of entry point j starts.
     pub fn entry_function(self, j: usize) -> usize
-        requires tape { Tape self.words.now self.tags.now self.n }
         requires j_bound { j < count_at 7 self.words.now }
         ensures { result ≡ record_at 7 j self.entry.words.now + entry_head_words }
     {
         start_of(self.words, ENTRIES, j) + ENTRY_HEAD
     }
+}
 
+impl Cells<'_> {
     // Where the named expressions of the function at s start. Expressions have no fixed size: after the last one, the tags have the class of the count of
     // named expressions. A `while`, since that class is there: a `for` to the end of the tags would have a case that never is.
     pub fn named_at(self, s: usize) -> usize

@@ -1,4 +1,5 @@
-// Bytes to words and back, little-endian, on slices that the caller provides.
+// Bytes to words and back, little-endian, on slices that the caller provides. Both loops put what they make at its place by number: over
+// `words.iter_mut().zip(bytes.chunks_exact(4))`, as tried on `load`, the loop's invariant has no `words`, which the iterator holds, to say what has been put.
 #![tactic(auto)]
 
 ghost use Rattle.std.specs.Prelude.{◌≡◌, ◌+◌, ◌*◌, ◌/◌, ◌^◌, ◌≤◌, ◌<◌, length, [], ◌∷◌};
@@ -42,7 +43,7 @@ pub fn store(words: &[u32], bytes: &mut [u8])
     requires { 4 * length words.now ≤ length bytes.old }
     ensures { bytes.new ≡ sets bytes.old 0 (bytes_of words.now) }
 {
-    for j in 0..words.len() {
-        put_word(bytes, 4 * j, words[j]);
+    for (j, w) in words.iter().enumerate() {
+        put_word(bytes, 4 * j, *w);
     }
 }

@@ -1,5 +1,5 @@
 // Reads an image on standard input and says what intake answers: `accepted`, or `refused` and the number; a refusal is also reported on standard error, with its
-// sentence. Input longer than an image may be is refused 1 and not cut: the buffer holds one byte more.
+// sentence. Input longer than an image may be is refused for its size and not cut: the buffer holds one byte more.
 #![tactic(auto)]
 
 // The answer for an image.
@@ -8,9 +8,7 @@ fn answer(rt: &(impl Print + Eprint), image: &[u8]) {
         Ok(_) => program_streams::write(rt, "check_image", b"accepted\n"),
         Err(refusal) => {
             let number = refusal.number();
-            if let Err(error) = println!(rt; "refused {number}") {
-                program_streams::unwritten(rt, "check_image", error);
-            }
+            program_streams::unwritten(rt, "check_image", println!(rt; "refused {number}"));
             program_streams::refused(rt, "check_image", refusal);
         }
     }

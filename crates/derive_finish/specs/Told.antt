@@ -9,15 +9,17 @@ use Rattle.base_refusals.specs.Numbers.{number_of}
 use Rattle.derive_state.specs.Held.{entries_of, st_of, ValidArrays}
 use Rattle.derive_state.specs.Sizes.{Sizes}
 
--- the number of the refusal, 0 for none, and the count of bytes written, 0 where it is refused
+-- the number of the refusal, 0 for none
 abbrev pub refusal_of : {A : Type 0} → Result A Refusal → ℕ
 refusal_of (Ok a) = 0
 refusal_of (Err e) = number_of e
 
+-- the count of bytes written, 0 where it is refused
 abbrev pub bytes_in : Result ℕ Refusal → ℕ
 bytes_in (Ok bytes) = bytes
 bytes_in (Err e) = 0
 
+-- the same of the model's answer, with the output afterwards
 unfoldable pub told : Answer (List ℕ) → List ℕ → ℕ × ℕ × List ℕ
 told (answered ws s) output = (0, 4 * length ws, sets output 0 (bytes_of ws))
 told (refused k) output = (k, 0, output)

@@ -6,6 +6,7 @@ ghost use Rattle.derive_finish.specs.Told.{Held, Ended, refusal_of, bytes_in};
 ghost use Rattle.derive_state.specs.Sizes.{going};
 
 use base_refusals::Refusal;
+use base_words::Words;
 use derive_state::{Derived, Special};
 
 // Writes the derived module as bytes, with the entry points that the arrays hold, and answers how many they are; refused, the output is as it was. Its words
@@ -13,7 +14,7 @@ use derive_state::{Derived, Special};
 pub fn finish(
     derived: &Derived,
     special: &Special,
-    out: &mut [u32; 16384],
+    out: &mut Words,
     output: &mut [u8],
 ) -> Result<usize, Refusal>
     requires held { Held derived.now.log.now derived.now.logtags.now derived.now.starts.now (going derived.now.sizes) }

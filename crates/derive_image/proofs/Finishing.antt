@@ -15,8 +15,8 @@ use Rattle.model.specs.Finish.{names_in}
 use Rattle.derive_sections.specs.Flat.{firsts_t, sizes, heads, tables, total, image_words, new_name, ordered, finished_words}
 use Rattle.derive_state.specs.Held.{recs_at}
 use Rattle.derive_sections.specs.Rows.{tabs_of, Row, Rows, AppearingEnsures, named}
-use Rattle.std.specs.Prelude.{Some, None}
-use Rattle.std.proofs.lemmas.Option.{none-some, same_Some}
+use Rattle.std.specs.Prelude.{Result, Ok, Err}
+use Rattle.derive_state.specs.declared.Full.{Full as TooLarge}
 use Rattle.derive_image.specs.Held.{ValidTables, Finishes}
 use Rattle.derive_image.proofs.Whole.{map_at_lem, wide-rec, wide_row, rec-at, tabs_ordered, ordered-tables, length-tables, length-heads, length_tabs}
 
@@ -41,6 +41,13 @@ pub length-ordered : (rss : List (List Cells)) → length (ordered rss) ≡ leng
 unfolding ordered
 length-ordered [] = refl
 length-ordered (names ∷ rss) = refl
+
+-- what is too large is no number, and a number is one alone
+err-ok : {e : TooLarge} {k : ℕ} → ◌≡◌ {A = Result ℕ TooLarge} (Err e) (Ok k) → ⊥
+err-ok q = cc
+
+same_ok : {j k : ℕ} → ◌≡◌ {A = Result ℕ TooLarge} (Ok j) (Ok k) → j ≡ k
+same_ok q = cc
 
 module _ (log logtags : List ℕ) (starts : List (List ℕ)) (counts : List ℕ) (d : ValidTables log logtags starts counts) where
   pub names_few : get_or counts 0 0 ≤ 512
@@ -130,8 +137,8 @@ module _ (log logtags : List ℕ) (starts : List (List ℕ)) (counts : List ℕ)
           unfolding total
           total_is = let z : sizes New ≡ sizes (ordered Tabs) = ap sizes new-ordered in let y = sp_length in let x = ae.0 in omega arith
 
-          pub finish_over : (out₀ : List ℕ) → 16384 < 20 + a + 3 + 2 * pairs → Finishes Tabs pairs Sp out₀ None out₀
-          finish_over out₀ h = let t = total_is in record { over = λ e. (omega arith, refl); size = λ k z. absurd (none-some k z); fits = λ k z. absurd (none-some k z); names = λ k z. absurd (none-some k z); is = λ k z. absurd (none-some k z) }
+          pub finish_over : (out₀ : List ℕ) (e : TooLarge) → 16384 < 20 + a + 3 + 2 * pairs → Finishes Tabs pairs Sp out₀ (Err e) out₀
+          finish_over out₀ e h = let t = total_is in record { over = λ e z. (omega arith, refl); size = λ k z. absurd (err-ok z); fits = λ k z. absurd (err-ok z); names = λ k z. absurd (err-ok z); is = λ k z. absurd (err-ok z) }
 
           module _ (fit : 20 + a + 3 + 2 * pairs ≤ 16384) where
             pub tables-room : 20 + sizes New ≤ 16384
@@ -143,7 +150,7 @@ module _ (log logtags : List ℕ) (starts : List (List ℕ)) (counts : List ℕ)
             pub finish_done : (out₀ out₁ : List ℕ) → out₁ ≡ sets (set (set out₀ 0 1) 1 (20 + a + 3 + 2 * pairs)) 2 (heads New 20 pairs)
                 → (out₂ : List ℕ) (p : ℕ) → (out₂ ≡ sets out₁ 20 (tables (named places) New)) × (p ≡ 20 + sizes New)
                 → (out₃ : List ℕ) → out₃ ≡ sets out₂ p Sp
-                → Finishes Tabs pairs Sp out₀ (Some (20 + a + 3 + 2 * pairs)) out₃
+                → Finishes Tabs pairs Sp out₀ (Ok (20 + a + 3 + 2 * pairs)) out₃
             unfolding image_words
             finish_done out₀ out₁ e₁ out₂ p e₂ out₃ e₃ =
                 let t = total_is in
@@ -159,9 +166,9 @@ module _ (log logtags : List ℕ) (starts : List (List ℕ)) (counts : List ℕ)
                 let q : p ≡ 20 + sizes (ordered Tabs) = e₂.1 ∙ ap (λ (x : List (List Cells)). 20 + sizes x) new-ordered in
                 let g₃ : out₃ ≡ sets (sets (sets o 2 (heads (ordered Tabs) 20 pairs)) 20 (tables f (ordered Tabs))) (20 + sizes (ordered Tabs)) Sp = e₃ ∙ ap₂ (λ (x : List ℕ) (y : ℕ). sets x y Sp) g₂ q in
                 record {
-                  over = λ e. absurd (none-some _ (sym e));
-                  size = λ k z. sym (same_Some _ _ z) ∙ t;
-                  fits = λ k z. rw (← same_Some _ _ z) fit;
+                  over = λ e z. absurd (err-ok (sym z));
+                  size = λ k z. sym (same_ok z) ∙ t;
+                  fits = λ k z. rw (← same_ok z) fit;
                   names = λ k z. names_low;
                   is = λ k z. g₃ ∙ sym (h₁ ∙ h₂) ∙ sym (ap (sets out₀ 0) (finished-image Tabs pairs Sp (let y = eight_tabs in omega arith)) ∙ ap (λ (k : ℕ). sets (set (set out₀ 0 1) 1 k) 2 (heads (ordered Tabs) 20 pairs ++ (tables f (ordered Tabs) ++ Sp))) (sym t));
                 }

@@ -11,9 +11,8 @@ use Rattle.derive_state.proofs.State.{recs_long}
 use Rattle.derive_sections.specs.Flat.{firsts_t, heads, tables, total, image_words, new_name, ordered, finished_words}
 use Rattle.derive_state.specs.Held.{recs_at}
 use Rattle.derive_sections.specs.Rows.{tabs_of}
-use Rattle.std.specs.Prelude.{Option, Some, None, Ok, Err}
-use Rattle.std.specs.Option.{ok_or}
-use Rattle.base_refusals.specs.declared.Refusal.{Refusal}
+use Rattle.std.specs.Prelude.{Result, Ok, Err}
+use Rattle.derive_state.specs.declared.Full.{Full as TooLarge}
 use Rattle.base_refusals.specs.declared.Refusal.TheVariants.{Full, ShortOutput}
 use Rattle.derive_image.specs.Held.{ValidTables, Finishes, Fits, Stored, long, functions, entries, large, short, done}
 use Rattle.derive_image.proofs.Whole.{length-tables, length-heads, length_tabs}
@@ -58,16 +57,11 @@ module _ (log logtags : List ℕ) (starts : List (List ℕ)) (counts : List ℕ)
   pub many_entries : 16 < get_or counts 7 0 → Stored Tabs pairs sp bytes₀ (Err Full) bytes₀
   many_entries h = large (entries (let z = count_of 7 (omega arith) in omega arith))
 
-  -- refused where the words are none
-  pub refused_full : (r : Option ℕ) (y : Refusal) → Err y ≡ ok_or r Full → y ≡ Full
-  refused_full None y q = cc
-  refused_full (Some k) y q = absurd (cc)
+  module _ (out₀ : List ℕ) (r : Result ℕ TooLarge) (out : List ℕ) (w : Finishes Tabs pairs sp out₀ r out) where
+    pub too_long : (e : TooLarge) → r ≡ Err e → Stored Tabs pairs sp bytes₀ (Err Full) bytes₀
+    too_long e q = large (long (w.over e q).0)
 
-  module _ (out₀ : List ℕ) (r : Option ℕ) (out : List ℕ) (w : Finishes Tabs pairs sp out₀ r out) where
-    pub too_long : r ≡ None → Stored Tabs pairs sp bytes₀ (Err Full) bytes₀
-    too_long e = large (long (w.over e).0)
-
-    module _ (few : get_or counts 6 0 ≤ 256) (few' : get_or counts 7 0 ≤ 16) (k : ℕ) (some : r ≡ Some k) where
+    module _ (few : get_or counts 6 0 ≤ 256) (few' : get_or counts 7 0 ≤ 16) (k : ℕ) (some : r ≡ Ok k) where
       fits_all : Fits Tabs sp
       fits_all = let y = w.size k some in record { short = (let z = w.fits k some in omega arith); names = w.names k some; functions = (let z = count_of 6 (omega arith) in omega arith); entries = (let z = count_of 7 (omega arith) in omega arith) }
 

@@ -9,15 +9,12 @@ ghost use Rattle.derive_sections.specs.Rows.{tabs_of};
 ghost use Rattle.derive_image.specs.Held.{ValidTables, Finishes, Stored};
 
 use base_refusals::Refusal;
-use base_views::{ENTRIES, FUNCTIONS, HEADER, MOST_ENTRIES, MOST_FUNCTIONS, NAMES};
-use base_words::store;
-use derive_sections::{all_sizes, appearing, write_heads, write_tables};
-use derive_state::{Derived, Sizes, Special};
+use base_views::{EDITION, ENTRIES, FUNCTIONS, HEADER, MOST_ENTRIES, MOST_FUNCTIONS, NAMES};
+use base_words::{Words, store};
+use derive_sections::{WritableTables, appearing};
+use derive_state::{Derived, Full, MOST_WORDS, Sizes, Special};
 
-// How many words an image may have.
-const MOST_WORDS: usize = 16384;
-
-// The starts of the names in their new order.
+// The starts of the names in their new order. By places: with `r.iter_mut().zip(order)` it would be `*to = row[*k as usize]`, the same loop.
 fn choose(row: &[u32; 512], order: &[u32]) -> [u32; 512]
     requires order_bound { length order.now ≤ 512 }
     requires by_index { (j : ℕ) → j < length order.now → get_or order.now j 0 < 512 }
@@ -30,9 +27,9 @@ fn choose(row: &[u32; 512], order: &[u32]) -> [u32; 512]
     r
 }
 
-// Writes the image as words, and answers how many they are; or none, and nothing is written, where they are too many.
+// Writes the image as words, and answers how many they are; nothing is written where they are too many.
 // That `special` has 1,027 words is a clause here and in `finish`: of a type with a model a caller's proof sees the value, and not the invariant that says it.
-pub fn finish_words(derived: &Derived, special: &Special, out: &mut [u32; 16384]) -> Option<usize>
+pub fn finish_words(derived: &Derived, special: &Special, out: &mut Words) -> Result<usize, Full>
     requires valid_tables { ValidTables derived.now.log.now derived.now.logtags.now derived.now.starts.now derived.now.sizes.counts }
     requires pairs_bound { (derived.now.sizes.pairs ≤ 512) × (length special.now ≡ 1027) × (length out.old ≡ 16384) }
     ensures { Finishes (tabs_of derived.now.log.now derived.now.logtags.now derived.now.starts.now derived.now.sizes.counts) derived.now.sizes.pairs (take (3 + 2 * derived.now.sizes.pairs) special.now) out.old result out.new }
@@ -50,17 +47,18 @@ pub fn finish_words(derived: &Derived, special: &Special, out: &mut [u32; 16384]
         },
         ..*derived
     };
+    let writable = WritableTables { view: &chosen };
     let pairs = derived.sizes.pairs as usize;
-    let k = HEADER + all_sizes(&chosen) + 3 + 2 * pairs;
+    let k = HEADER + writable.all_sizes() + 3 + 2 * pairs;
     if MOST_WORDS < k {
-        return None;
+        return Err(Full);
     }
-    out[0] = 1;
+    out[0] = EDITION;
     out[1] = k as u32;
-    write_heads(&chosen, out);
-    let at = write_tables(&chosen, &met.places, out, HEADER);
+    writable.write_heads(derived.sizes.pairs as u32, out);
+    let at = writable.write_tables(&met.places, out, HEADER);
     special.write(pairs, out, at);
-    Some(k)
+    Ok(k)
 }
 
 // Writes the image as bytes, and answers how many they are; refused, the output is as it was. Its words are put together in `out`,
@@ -68,7 +66,7 @@ pub fn finish_words(derived: &Derived, special: &Special, out: &mut [u32; 16384]
 pub fn finish(
     derived: &Derived,
     special: &Special,
-    out: &mut [u32; 16384],
+    out: &mut Words,
     output: &mut [u8],
 ) -> Result<usize, Refusal>
     requires valid_tables { ValidTables derived.now.log.now derived.now.logtags.now derived.now.starts.now derived.now.sizes.counts }
@@ -76,10 +74,11 @@ pub fn finish(
     ensures { Stored (tabs_of derived.now.log.now derived.now.logtags.now derived.now.starts.now derived.now.sizes.counts) derived.now.sizes.pairs (take (3 + 2 * derived.now.sizes.pairs) special.now) output.old result output.new }
 {
     let counts = derived.sizes.counts;
+    // the limits by their names: `limit(FUNCTIONS)` finds them by the number of a section that is known here
     if MOST_FUNCTIONS < counts[FUNCTIONS] as usize || MOST_ENTRIES < counts[ENTRIES] as usize {
         return Err(Refusal::Full);
     }
-    let k = finish_words(derived, special, out).ok_or(Refusal::Full)?;
+    let k = finish_words(derived, special, out)?;
     if output.len() < 4 * k {
         return Err(Refusal::ShortOutput);
     }

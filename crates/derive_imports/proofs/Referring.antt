@@ -9,7 +9,7 @@ use Rattle.model.specs.References.{Place, table, own, function, Target, copied, 
 use Rattle.derive_state.specs.Refers.{code_p, target_of, unspanned, tab_of}
 use Rattle.derive_state.specs.Source.{if_some, refers_to, less, number_of}
 use Rattle.derive_state.proofs.State.{code_tab, code_low}
-use Rattle.derive_imports.specs.declared.Reference.{Reference}
+use Rattle.derive_state.specs.declared.Reference.{Reference}
 use Rattle.derive_imports.specs.declared.Referent.{Referent}
 use Rattle.derive_imports.specs.declared.Referent.TheVariants as code
 use Rattle.derive_imports.specs.Referents.{at_place, referent_of}

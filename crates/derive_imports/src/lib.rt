@@ -1,4 +1,4 @@
-// The import of a record of a table, as derive.rs has it for names, types, constants, overrides, globals and global expressions: what a word refers to, a record by its
+// The import of a record of a table, as naga_oil's derive.rs has it for names, types, constants, overrides, globals and global expressions: what a word refers to, a record by its
 // table and its number there; and the import, which calls itself on what a record refers to.
 #![tactic(auto)]
 
@@ -7,20 +7,15 @@ ghost use Rattle.model.specs.Module.{count_at};
 ghost use Rattle.model.specs.References.{target};
 ghost use Rattle.model.specs.Imports.{import_t};
 ghost use Rattle.derive_state.specs.Refers.{tab_of};
-ghost use Rattle.derive_state.specs.Source.{src_of, Source, refers_to, number_of};
+ghost use Rattle.derive_state.specs.Source.{src_of, refers_to, number_of};
 ghost use Rattle.derive_state.specs.Held.{Valid, Imports};
 ghost use Rattle.derive_imports.specs.Referents.{referent_of};
 
 use base_views::EXPRESSIONS;
 use derive_intern::intern;
-use derive_state::{DerivedMut, Full, ShaderRecord, ShaderSource, Sizes, Target, target_of};
-
-// A record: its table, and its number there.
-#[derive(Clone, Copy)]
-pub struct Reference {
-    pub table: usize,
-    pub number: u32,
-}
+use derive_state::{
+    DerivedMut, Full, Reference, ShaderRecord, ShaderSource, Sizes, Target, target_of,
+};
 
 // What a word refers to: a record of a table, or an expression of the word's own function; among global expressions that is one of these.
 #[derive(Clone, Copy)]
@@ -29,7 +24,8 @@ pub enum Referent {
     Own(u32),
 }
 
-// What the word w of the class s refers to; a function that it names is no part of that.
+// What the word w of the class s refers to; a function that it names is no part of that. No method of `Image` by a place: `Image` is of base_views, which has no `Referent`, so that it would be a trait's,
+// and function_runs asks it of a word that it has already.
 pub fn referent_of(s: u8, w: u32) -> Option<Referent>
     ensures { result ≡ referent_of (target s) w }
 {
@@ -68,7 +64,6 @@ pub fn import(
     ends: Sizes,
     r: Reference,
 ) -> Result<Sizes, Full>
-    requires source { Source source.image.words.now source.image.tags.now source.image.n }
     requires number_bound { (r.table < 6) × (r.number < count_at r.table source.image.words.now) }
     requires valid_arrays { Valid derived.old ends }
     ensures { Imports source.entry.image.words.now (import_t source.entry.offset (src_of source.entry.image.words.now source.entry.image.n) (tab_of r.table) r.number) derived.old ends result derived.new }
@@ -84,10 +79,11 @@ pub fn import(
             e = import(source, derived, e, lower)?;
         }
     }
+    // a literal, as in derive_lookup: a method of both kinds of source would be a public function for these two places, with clauses on the table and the number
     let record = ShaderRecord {
-        image: source.image,
+        cells: source.image.cells(),
         at,
         end,
     };
-    intern(record, source.offset, derived, e, r.table, k)
+    intern(record, source.offset, derived, e, r)
 }

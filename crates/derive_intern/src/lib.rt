@@ -14,39 +14,40 @@ ghost use Rattle.derive_intern.specs.Buckets.{Tells};
 ghost use Rattle.derive_state.specs.Held.{row, cell, rec_at, recs_at, ValidArrays, Valid, Imports, Nameless, carried_by};
 
 use derive_state::{
-    Buckets, Derived, DerivedMut, Full, ShaderRecord, Sizes, alike, alike_cell, bucket_of, carried,
-    write,
+    Buckets, Derived, DerivedMut, Full, Reference, ShaderRecord, Sizes, alike, alike_cell,
+    bucket_of, carried, write,
 };
 
 // Whether the record at s is what the source's record becomes, ignoring spans: the same as `alike`, but the last word is compared first, since records that are not
 // equal mostly differ there.
-fn equals_record(source: ShaderRecord, derived: &Derived, s: usize) -> bool
+fn equals_record(original: ShaderRecord, derived: &Derived, s: usize) -> bool
     requires { (s + suc (get_or derived.now.log.now s 0) ≤ 16384) × (length derived.now.log.now ≡ 16384) × (length derived.now.logtags.now ≡ 16384) }
-    ensures { result ≡ alikeOf (rec_at derived.now.log.now derived.now.logtags.now s) (carried_by (went_r derived.now.maps.now) source.entry.image.tags.now source.entry.image.words.now source.entry.at source.entry.end) }
+    ensures { result ≡ alikeOf (rec_at derived.now.log.now derived.now.logtags.now s) (carried_by (went_r derived.now.maps.now) original.entry.cells.tags.now original.entry.cells.words.now original.entry.at original.entry.end) }
 {
-    let n = source.len();
+    let n = original.len();
     let may_equal = n == 0
         || derived.log[s] as usize == n
             && alike_cell(
                 derived.logtags[s + n] as u32,
                 derived.log[s + n],
-                source.image.tags[source.end - 1],
+                original.cells.tags[original.end - 1],
                 carried(
                     derived.maps,
-                    source.image.tags[source.end - 1],
-                    source.image.words[source.end - 1],
+                    original.cells.tags[original.end - 1],
+                    original.cells.words[original.end - 1],
                 ),
             );
-    may_equal && alike(source, derived, s)
+    may_equal && alike(original, derived, s)
 }
 
-// The first of table t's n records that is, ignoring spans, what the source's record becomes.
-fn find(source: ShaderRecord, derived: &Derived, t: usize, n: usize) -> Option<usize>
-    requires t_bound { (t < 8) × (n ≤ 512) × (length derived.now.log.now ≡ 16384) × (length derived.now.logtags.now ≡ 16384) × (length (row derived.now.starts.now t) ≡ 512) }
-    requires by_index { (k : ℕ) → k < n → cell derived.now.starts.now t k + suc (get_or derived.now.log.now (cell derived.now.starts.now t k) 0) ≤ 16384 }
-    ensures { MatchOption result (n ≡ index_of (recs_at derived.now.log.now derived.now.logtags.now (take n (row derived.now.starts.now t))) (carried_by (went_r derived.now.maps.now) source.entry.image.tags.now source.entry.image.words.now source.entry.at source.entry.end)) (λ j. (j < n) × (j ≡ index_of (recs_at derived.now.log.now derived.now.logtags.now (take n (row derived.now.starts.now t))) (carried_by (went_r derived.now.maps.now) source.entry.image.tags.now source.entry.image.words.now source.entry.at source.entry.end))) }
+// The first of table t's records that is, ignoring spans, what the source's record becomes.
+fn find(original: ShaderRecord, derived: &Derived, t: usize) -> Option<usize>
+    requires t_bound { (t < 8) × (get_or derived.now.sizes.counts t 0 ≤ 512) × (length derived.now.log.now ≡ 16384) × (length derived.now.logtags.now ≡ 16384) × (length (row derived.now.starts.now t) ≡ 512) }
+    requires by_index { (k : ℕ) → k < get_or derived.now.sizes.counts t 0 → cell derived.now.starts.now t k + suc (get_or derived.now.log.now (cell derived.now.starts.now t k) 0) ≤ 16384 }
+    ensures { MatchOption result (get_or derived.now.sizes.counts t 0 ≡ index_of (recs_at derived.now.log.now derived.now.logtags.now (take (get_or derived.now.sizes.counts t 0) (row derived.now.starts.now t))) (carried_by (went_r derived.now.maps.now) original.entry.cells.tags.now original.entry.cells.words.now original.entry.at original.entry.end)) (λ j. (j < get_or derived.now.sizes.counts t 0) × (j ≡ index_of (recs_at derived.now.log.now derived.now.logtags.now (take (get_or derived.now.sizes.counts t 0) (row derived.now.starts.now t))) (carried_by (went_r derived.now.maps.now) original.entry.cells.tags.now original.entry.cells.words.now original.entry.at original.entry.end))) }
 {
-    (0..n).find(|j| equals_record(source, derived, derived.starts[t][*j] as usize))
+    let n = derived.sizes.counts[t] as usize;
+    (0..n).find(|j| equals_record(original, derived, derived.starts[t][*j] as usize))
 }
 
 // What a bucket shows: no record, a record's number, or that records of several numbers have this bucket.
@@ -85,50 +86,52 @@ fn set_bucket(buckets: &mut Buckets, p: usize, k: usize)
 }
 
 // The same as `find`, by bucket p.
-fn find_by_bucket(source: ShaderRecord, derived: &Derived, t: usize, p: usize) -> Option<usize>
-    requires t_bound { (t < 6) × (p ≡ place_r t (carried_by (went_r derived.now.maps.now) source.image.tags.now source.image.words.now source.at source.end)) × (p < MARKS) }
+fn find_by_bucket(original: ShaderRecord, derived: &Derived, t: usize, p: usize) -> Option<usize>
+    requires t_bound { (t < 6) × (p ≡ place_r t (carried_by (went_r derived.now.maps.now) original.cells.tags.now original.cells.words.now original.at original.end)) × (p < MARKS) }
     requires valid_arrays { ValidArrays derived.now.log.now derived.now.logtags.now derived.now.starts.now derived.now.maps.now derived.now.buckets.now (going derived.now.sizes) }
-    ensures { MatchOption result (get_or derived.now.sizes.counts t 0 ≡ index_of (recs_at derived.now.log.now derived.now.logtags.now (take (get_or derived.now.sizes.counts t 0) (row derived.now.starts.now t))) (carried_by (went_r derived.now.maps.now) source.entry.image.tags.now source.entry.image.words.now source.entry.at source.entry.end)) (λ j. (j < get_or derived.now.sizes.counts t 0) × (j ≡ index_of (recs_at derived.now.log.now derived.now.logtags.now (take (get_or derived.now.sizes.counts t 0) (row derived.now.starts.now t))) (carried_by (went_r derived.now.maps.now) source.entry.image.tags.now source.entry.image.words.now source.entry.at source.entry.end))) }
+    ensures { MatchOption result (get_or derived.now.sizes.counts t 0 ≡ index_of (recs_at derived.now.log.now derived.now.logtags.now (take (get_or derived.now.sizes.counts t 0) (row derived.now.starts.now t))) (carried_by (went_r derived.now.maps.now) original.entry.cells.tags.now original.entry.cells.words.now original.entry.at original.entry.end)) (λ j. (j < get_or derived.now.sizes.counts t 0) × (j ≡ index_of (recs_at derived.now.log.now derived.now.logtags.now (take (get_or derived.now.sizes.counts t 0) (row derived.now.starts.now t))) (carried_by (went_r derived.now.maps.now) original.entry.cells.tags.now original.entry.cells.words.now original.entry.at original.entry.end))) }
 {
     let n = derived.sizes.counts[t] as usize;
     let starts = &derived.starts[t];
     match bucket_at(derived.buckets, p) {
         Bucket::Empty => None,
-        Bucket::One(j) if j < n && alike(source, derived, starts[j] as usize) => Some(j),
+        Bucket::One(j) if j < n && alike(original, derived, starts[j] as usize) => Some(j),
         Bucket::One(_) => None,
-        Bucket::Several => find(source, derived, t, n),
+        Bucket::Several => find(original, derived, t),
     }
 }
 
-// Maps number k of table t to the record that the source's becomes: an equal one that is found, or a new one.
+// Maps the record r of the source, which is `original`, to what it becomes: an equal one that is found, or a new one.
 pub fn intern(
-    source: ShaderRecord,
+    original: ShaderRecord,
     offset: u32,
     derived: &mut DerivedMut,
     ends: Sizes,
-    t: usize,
-    k: usize,
+    r: Reference,
 ) -> Result<Sizes, Full>
-    requires t_bound { (t < 6) × (k < count_at t source.image.words.now) × (k < 512) }
-    requires nameless { t ≡ 0 → Nameless (between source.image.tags.now source.image.words.now source.at source.end) }
+    requires number_bound { (r.table < 6) × (r.number < count_at r.table original.cells.words.now) × (r.number < 512) }
+    requires nameless { r.table ≡ 0 → Nameless (between original.cells.tags.now original.cells.words.now original.at original.end) }
     requires valid_arrays { Valid derived.old ends }
-    ensures { Imports source.entry.image.words.now (settled (tab_of t) k (shift (carried_by (went_r derived.old.maps.now) source.entry.image.tags.now source.entry.image.words.now source.entry.at source.entry.end) offset false)) derived.old ends result derived.new }
+    ensures { Imports original.entry.cells.words.now (settled (tab_of r.table) r.number (shift (carried_by (went_r derived.old.maps.now) original.entry.cells.tags.now original.entry.cells.words.now original.entry.at original.entry.end) offset false)) derived.old ends result derived.new }
 {
+    let t = r.table;
+    let k = r.number as usize;
     let n = ends.counts[t] as usize;
     let loglen = ends.loglen as usize;
-    let p = bucket_of(source, derived.maps, t);
-    let found = find_by_bucket(source, &derived.view(ends), t, p);
+    let p = bucket_of(original, derived.maps, t);
+    let found = find_by_bucket(original, &derived.view(ends), t, p);
     if let Some(j) = found {
         derived.maps[t][k] = (j + 1) as u32;
         return Ok(ends);
     }
-    let len = source.len();
-    if n == 512 || ends.words_left() < 1 + len {
+    let len = original.len();
+    // how many starts there is room for, which is `limit` of each of the six tables
+    if n == derived.starts[t].len() || ends.words_left() < 1 + len {
         return Err(Full);
     }
     derived.log[loglen] = len as u32;
     write(
-        source,
+        original,
         offset,
         derived.log,
         derived.logtags,

@@ -1,5 +1,7 @@
 -- What a state's names and functions have to be for its functions to be found by name, and what finding one answers.
 use Rattle.std.specs.Prelude.{◌≡◌, List, [], ℕ, suc, ◌+◌, ◌-◌, ◌≤◌, ◌<◌, length, get_or, take, Option, None, Some}
+use Rattle.std.specs.Coded.{le_prop}
+use Rattle.std.proofs.Props.{props}
 use Rattle.model.specs.Outcome.{Cells}
 use Rattle.model.specs.Redirect.{name_word}
 use Rattle.model.specs.References.{index_of}
@@ -9,7 +11,7 @@ use Rattle.derive_state.specs.Source.{mod_of}
 use Rattle.derive_state.specs.Held.{rec_at, recs_at, Apart, st_of}
 use Rattle.derive_state.specs.Sizes.{Sizes}
 
--- records that start at the first n of these places lie in the log, and no two are alike; a part of `Bearing`, and a clause as that is
+-- records that start at the first n of these places lie in the log, and no two are alike; a part of `Bearing`
 pub record Names (log logtags starts : List ℕ) (n : ℕ) : Type 0 where
   pub few : n ≤ 512
   pub log_long : length log ≡ 16384
@@ -31,10 +33,14 @@ pub record Heads (log logtags starts : List ℕ) (n : ℕ) : Type 0 where
   pub within : (k : ℕ) → k < n → suc (get_or starts k 0) < 16384
   pub first : (k : ℕ) → k < n → name_word (function_of (rec_at log logtags (get_or starts k 0))) ≡ get_or log (suc (get_or starts k 0)) 0
 
--- the names and the functions of a state; a clause, for the reason beside `Derived` of derive_state
+-- the names and the functions of a state; a ghost field of `NamedDerived`
 pub record Bearing (log logtags : List ℕ) (starts : List (List ℕ)) (e : Sizes) : Type 0 where
   pub names : Names log logtags (get_or starts 0 []) (get_or e.counts 0 0)
   pub functions : Heads log logtags (get_or starts 6 []) (get_or e.counts 6 0)
+
+-- that they are such has one proof at most
+pub Bearing-prop : (log logtags : List ℕ) (starts : List (List ℕ)) (e : Sizes) → IsProp (Bearing log logtags starts e)
+Bearing-prop log logtags starts e = hlevel (props, le_prop)
 
 -- a number plus 1, and 0 for none
 abbrev pub plus_one : Option ℕ → ℕ

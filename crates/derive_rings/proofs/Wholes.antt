@@ -6,7 +6,8 @@ use mathlib.Core.List.{List, [], ◌∷◌}
 use Prim.Native.Nat.{ℕ, ◌≤◌, ◌<◌}
 use native.Mathlib.Omega.{arith}
 use lib.Dec.{eqb}
-use lib.ListN.{length, get_or}
+use lib.ListN.{length, get_or, take}
+use lib.Seq.{length-take-le}
 use borrow.Author.Tests.{eqb-true, eq-eqb, ne_eqb}
 use Rattle.theory_lists.specs.Lists.{looked_at}
 use Rattle.theory_lists.specs.Booleans.{bool_same, either}
@@ -24,6 +25,7 @@ use Rattle.order_ranks.specs.Marks.{holds, members, marked, Firsts, Below}
 use Rattle.order_ranks.specs.Placing.{Leaves}
 use Rattle.theory_order.specs.Lists.{any_in, in_any, numbers_in, keep_in, keep_ext, length-numbers}
 use Rattle.order_ranks.proofs.Marks.{firsts-below, firsts-members, members_in}
+use Rattle.order_ranks.proofs.Front.{leaves_front}
 use Rattle.order_callees.specs.Gathering.{Known, Gathered}
 use Rattle.order_callees.proofs.Numbered.{passed-known}
 use Rattle.theory_order.specs.Same.{rounds_ext}
@@ -165,10 +167,26 @@ module _ (words : List ℕ) (n : ℕ) (log logtags : List ℕ) (starts : List (L
       small : c ≤ 256
       small = omega (arith, few src)
 
-      pub all_asks : (c ≤ 256) × Below c every
-      all_asks = (small, firsts-below every c fs)
+      enough : c ≤ length cs
+      enough = omega (arith, small, g.long)
 
-      module _ (led : List ℕ) (l : Leaves (marked cs) c (members every) led) where
+      -- the sets of the functions alone
+      front_long : length (take c cs) ≡ c
+      front_long = length-take-le c cs enough
+
+      every_low : Below c every
+      every_low = firsts-below every c fs
+
+      pub all_asks : (length (take c cs) ≤ 256) × Below (length (take c cs)) every
+      all_asks = rw front_long (small, every_low)
+
+      module _ (led : List ℕ) (leads : Leaves (marked (take c cs)) (length (take c cs)) (members every) led) where
+        l : Leaves (marked cs) c (members every) led
+        l = leaves_front cs c enough every small every_low leads
+
+        pub led_below : Below (count_at 6 words) led
+        led_below = below_at led (sym hc) l.low
+
         led_is : members led ≡ (rounds (marked cs) c (numbers c 0)).left
         led_is =
             let m = firsts-members every c small fs in
@@ -178,12 +196,16 @@ module _ (words : List ℕ) (n : ℕ) (log logtags : List ℕ) (starts : List (L
           waiting_is : members waiting ≡ keep (rounds (marked cs) c (numbers c 0)).left is_unknown
           waiting_is = w.is [] [] ∙ ap (λ (x : List ℕ). keep x is_unknown) led_is
 
-          pub waiting_asks : (c ≤ 256) × Below c waiting
-          waiting_asks = (small, rw hc w.low)
+          waiting_low : Below c waiting
+          waiting_low = rw hc w.low
 
-          pub stuck_is : (set : List ℕ) → Leaves (marked cs) c (members waiting) set → Stuck words n log logtags starts e set
+          pub waiting_asks : (length (take c cs) ≤ 256) × Below (length (take c cs)) waiting
+          waiting_asks = rw front_long (small, waiting_low)
+
+          pub stuck_is : (set : List ℕ) → Leaves (marked (take c cs)) (length (take c cs)) (members waiting) set → Stuck words n log logtags starts e set
           unfolding stuck
-          stuck_is set r =
+          stuck_is set remains =
+              let r = leaves_front cs c enough waiting small waiting_low remains in
               let M = mod_of words n in
               let k : c ≡ length M.functions = hc ∙ taped_functions src.taped in
               record {

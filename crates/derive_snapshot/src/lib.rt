@@ -19,7 +19,8 @@ fn save_row(row: &[u32; 512], n: usize, to: &mut [u32; 512])
     to[..n].copy_from_slice(&row[..n]);
 }
 
-// Saves the starts of the derived records.
+// Saves the starts of the derived records. Apart from `save_maps`: of the starts the sizes tell how many are in use, of the maps the words. One function of both would be
+// `save_rows::<8>(starts, |t| ends.counts[t] as usize, s)` and `save_rows::<6>(maps, |t| count(words, t), m)`, with the loop of one line and a type parameter, a closure and its clauses around it.
 fn save_starts(starts: &Starts, ends: Sizes, s: &mut [[u32; 512]; 8])
     requires { Prefixes 8 0 (λ t. get_or ends.counts t 0) starts.now s.old }
     ensures { Prefixes 8 8 (λ t. get_or ends.counts t 0) starts.now s.new }
@@ -39,7 +40,8 @@ fn save_maps(words: &Words, maps: &Maps, m: &mut [[u32; 512]; 6])
     }
 }
 
-// What is saved of a derived module: the part of starts and maps that is in use.
+// What is saved of a derived module: the part of starts and maps that is in use. Where they are saved whole it is a literal, as in derive_source: `Snapshot::whole(&derived.view(ends))` would say in a call
+// what `starts: *derived.starts, maps: *derived.maps` says.
 #[derive(Clone, Copy)]
 pub struct Snapshot {
     pub starts: Starts,
@@ -63,7 +65,8 @@ impl Snapshot {
     }
 }
 
-// Restores starts and maps as they were saved, where something did not fit. It takes the two arrays that it writes, not the module: what stays needs no clause so.
+// Restores starts and maps as they were saved, where something did not fit. It takes the two arrays that it writes, not the module: what stays needs no clause so. The definition has a flag, which is
+// true here: it says too what is so where all fits, and the theorem of what an operation leaves (`whole_of` of proofs/Over.antt) takes both as one.
 pub fn restore(starts: &mut Starts, maps: &mut Maps, saved: &Snapshot)
     ensures { RestoreEnsures true saved.now.starts saved.now.maps starts.old maps.old starts.new maps.new }
 {

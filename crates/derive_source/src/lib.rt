@@ -5,7 +5,7 @@
 
 ghost use Rattle.std.specs.Prelude.{◌≡◌, ◌+◌, ◌<◌, replicate};
 ghost use Rattle.model.specs.Special.{rays as raysOf, pairs as pairs_of};
-ghost use Rattle.derive_state.specs.Source.{mod_of, src_of, Source};
+ghost use Rattle.derive_state.specs.Source.{mod_of, src_of};
 ghost use Rattle.derive_state.specs.Held.{ValidArrays, Specials, Valid};
 ghost use Rattle.derive_special.specs.Derives.{Derives};
 ghost use Rattle.derive_source.specs.SourceSet.{SetsTypes, SetsSource};
@@ -24,7 +24,6 @@ fn rays(
     special: &mut Special,
     ends: Sizes,
 ) -> Result<Sizes, Full>
-    requires source { Source source.image.words.now source.image.tags.now source.image.n }
     requires valid_arrays { Valid derived.old ends }
     requires specials { Specials special.old (going ends) }
     ensures { Derives source.entry.image.words.now (raysOf (mod_of source.entry.image.words.now source.entry.image.n).special.rays 0 source.entry.offset (src_of source.entry.image.words.now source.entry.image.n)) derived.old special.old ends result derived.new special.new }
@@ -44,7 +43,6 @@ fn pairs(
     special: &mut Special,
     ends: Sizes,
 ) -> Result<Sizes, Full>
-    requires source { Source source.image.words.now source.image.tags.now source.image.n }
     requires valid_arrays { Valid derived.old ends }
     requires specials { Specials special.old (going ends) }
     ensures { Derives source.entry.image.words.now (pairs_of (mod_of source.entry.image.words.now source.entry.image.n).special.pairs source.entry.offset (src_of source.entry.image.words.now source.entry.image.n)) derived.old special.old ends result derived.new special.new }
@@ -72,7 +70,6 @@ pub fn source_types(
     special: &mut Special,
     ends: Sizes,
 ) -> Result<Sizes, Full>
-    requires source { Source source.image.words.now source.image.tags.now source.image.n }
     requires valid_arrays { ValidArrays derived.old.log.now derived.old.logtags.now derived.old.starts.now (replicate 6 (replicate 512 0)) derived.old.buckets.now (going ends) }
     requires specials { Specials special.old (going ends) }
     ensures { SetsTypes source.entry.image.words.now source.entry.image.n source.entry.offset derived.old special.old ends result derived.new special.new }
@@ -82,19 +79,19 @@ pub fn source_types(
     pairs(source, derived, special, e)
 }
 
-// Sets a source, or, where it does not fit, changes nothing.
+// Sets a source, or, where it does not fit, changes nothing. Why it saves and restores by steps of its own is said in derive_rollback.
 pub fn set_source(
     source: ShaderSource,
     derived: &mut DerivedMut,
     special: &mut Special,
     ends: Sizes,
 ) -> Result<Sizes, Full>
-    requires source { Source source.image.words.now source.image.tags.now source.image.n }
     requires valid_arrays { Valid derived.old ends }
     requires specials { Specials special.old (going ends) }
     ensures { SetsSource source.entry.image.words.now source.entry.image.n source.entry.offset derived.old special.old ends result derived.new special.new }
 {
-    // whole, and no `Snapshot::of`: the maps are those of the source before, and the words of this one do not say how much of them is in use
+    // Whole, and no `Snapshot::of`: the maps are those of the source before, and the words of this one do not say how much of them is in use. It copies 28 KiB, where
+    // `Snapshot::of` writes as many zeros and then copies what is in use.
     let saved = Snapshot {
         starts: *derived.starts,
         maps: *derived.maps,

@@ -7,17 +7,18 @@
 ghost use Rattle.std.specs.Prelude.{◌≡◌, ◌+◌, ◌≤◌, ◌<◌};
 ghost use Rattle.model.specs.Module.{count_at};
 ghost use Rattle.model.specs.Special.{ray as rayOf};
-ghost use Rattle.derive_state.specs.Source.{src_of, Source};
+ghost use Rattle.derive_state.specs.Source.{src_of};
 ghost use Rattle.derive_state.specs.Held.{Specials, Valid};
 ghost use Rattle.derive_special.specs.Derives.{pair_of, Derives};
 ghost use Rattle.derive_state.specs.Sizes.{going};
 
 use base_handles::TypeHandle;
-use base_views::TYPES;
-use derive_imports::{Reference, import};
-use derive_state::{DerivedMut, Full, ShaderSource, Sizes, Special};
+use base_views::{SPECIAL, TYPES, limit};
+use derive_imports::import;
+use derive_state::{DerivedMut, Full, Reference, ShaderSource, Sizes, Special};
 
-// Derives the source's optional type w, for place k of the three.
+// Derives the source's optional type w, for place k of the three: the word that the source's section has, 0 or a number plus 1, as the definition takes it. With `Option<TypeHandle>` the one caller would
+// make of the word what is taken apart here, `word.checked_sub(1).map(TypeHandle)`.
 pub fn ray(
     source: ShaderSource,
     derived: &mut DerivedMut,
@@ -26,7 +27,6 @@ pub fn ray(
     k: usize,
     w: u32,
 ) -> Result<Sizes, Full>
-    requires source { Source source.image.words.now source.image.tags.now source.image.n }
     requires k_bound { (k < 3) × (w ≤ count_at 1 source.image.words.now) }
     requires valid_arrays { Valid derived.old ends }
     requires specials { Specials special.old (going ends) }
@@ -42,11 +42,7 @@ pub fn ray(
         derived.maps[TYPES][i] = v;
         return Ok(ends);
     }
-    let r = Reference {
-        table: TYPES,
-        number: h,
-    };
-    let got = import(source, derived, ends, r)?;
+    let got = import(source, derived, ends, Reference::from(TypeHandle(h)))?;
     special.set_ray(k, derived.maps[TYPES][i]);
     Ok(got)
 }
@@ -60,7 +56,6 @@ pub fn pair(
     key: u32,
     h: TypeHandle,
 ) -> Result<Sizes, Full>
-    requires source { Source source.image.words.now source.image.tags.now source.image.n }
     requires h_bound { h.0 < count_at 1 source.image.words.now }
     requires valid_arrays { Valid derived.old ends }
     requires specials { Specials special.old (going ends) }
@@ -71,13 +66,9 @@ pub fn pair(
         derived.maps[TYPES][i] = d + 1;
         return Ok(ends);
     }
-    let r = Reference {
-        table: TYPES,
-        number: h.0,
-    };
-    let got = import(source, derived, ends, r)?;
+    let got = import(source, derived, ends, Reference::from(h))?;
     let p = got.pairs as usize;
-    if p == 512 || got.words_left() < 2 {
+    if p == limit(SPECIAL) || got.words_left() < 2 {
         return Err(Full);
     }
     special.set_pair(p, key, derived.maps[TYPES][i] - 1);

@@ -2,6 +2,7 @@ pub mod Classes
 pub mod Passes
 pub mod Seeking
 pub mod Unlike
+pub mod Sources
 pub mod State
 pub mod Fresh
 pub mod Laws

@@ -1,7 +1,11 @@
 -- The passes over words and tags: comparing, searching, writing.
-use Rattle.std.proofs.Common.{◌≡◌, ℕ, zero, suc, ◌+◌, ◌-◌, ◌^◌, ◌<◌, ◌≤◌, Bool, true, false, List, [], ◌∷◌, map, length, get_or, take, drop, set, sym, refl, ap, ◌∙◌, add-zero, zero-add, add-one, arith, length-set, drop_of_length-le, length-take-le, drop-cons, get_or-take}
+use Rattle.std.proofs.Common.{◌≡◌, ℕ, zero, suc, ◌+◌, ◌-◌, ◌<◌, ◌≤◌, Bool, true, false, List, [], ◌∷◌, map, length, get_or, take, drop, set, sym, refl, ap, subst, ◌∙◌, add-zero, zero-add, add-one, arith, length-set, drop_of_length-le, length-take-le, drop-cons, get_or-take}
 use lib.ListN.{length-map}
 use lib.Seq.{slice, sets, length-slice}
+use Rattle.std.specs.declared.ops.Range.{Range}
+use Rattle.std.specs.Iterator.{Yields}
+use Rattle.std.specs.List.{fold, range_with_len}
+use Rattle.std.proofs.iter.Yields.{nat_range_steps}
 use Rattle.model.specs.Outcome.{Cells, class, word}
 use Rattle.model.specs.Between.{beside, between, Stretch}
 use Rattle.model.specs.Carry.{carry_cell}
@@ -10,7 +14,6 @@ use Rattle.theory_records.specs.RecordLaws.{All, rest_of, bare_w, bare}
 use Rattle.intake_distinct.specs.Places.{mix, mixed}
 use Rattle.theory_image.specs.Betweens.{between_none, between_next}
 use Rattle.derive_state.specs.Refers.{Small}
-use Rattle.derive_state.specs.Marks.{hash_r}
 use Rattle.derive_state.specs.Held.{rec_at, recs_at, carried_by, Written}
 
 -- ---- stretches
@@ -65,33 +68,29 @@ unfolding first_word
 following_none went tags words i end h = rw (carried-nothing went tags words i end h)
 
 -- ---- hashing
-module _ (words tags : List ℕ) (went : Place → ℕ → ℕ) (at end t : ℕ) where
-  pub record Hashing (h i : ℕ) : Type 0 where
-    pub within : i ≤ end
-    pub small : h < 2 ^ 24
-    pub good : All Small (refs (between tags words i end))
-    pub left : mixed (map word (bare (carried_by went tags words i end))) h ≡ hash_r t (carried_by went tags words at end)
+module _ (words tags : List ℕ) (went : Place → ℕ → ℕ) where
+  -- a hash with the word j in it
+  abbrev pub hash_step : ℕ → ℕ → ℕ
+  hash_step h j = mix h (bare_w (target (get_or tags j 0)) (through went (get_or tags j 0) (get_or words j 0)))
 
-  module _ (st : Stretch words tags at end) where
-    pub hash-begin : All Small (refs (between tags words at end)) → t < 8 → Hashing t at
-    unfolding hash_r
-    hash-begin gd h = record { within = st.rising; small = omega arith; good = gd; left = refl }
+  module _ (end : ℕ) (t : end ≤ length tags) (w : end ≤ length words) where
+    pub hash_fold : (n i h : ℕ) → i + n ≡ end → fold hash_step h (range_with_len i n) ≡ mixed (map word (bare (carried_by went tags words i end))) h
+    unfolding mixed bare
+    hash_fold zero i h e = rw (carried-nothing went tags words i end (omega arith)) refl
+    hash_fold (suc n) i h e = rw (add-one i, carried-next tags words i end (omega arith) t w went) (hash_fold n (suc i) (hash_step h i) (omega arith))
 
-    module _ (h i : ℕ) (inv : Hashing h i) where
-      pub hash_done : end ≤ i → h ≡ hash_r t (carried_by went tags words at end)
-      unfolding mixed bare
-      hash_done l = rw (carried-nothing went tags words i end l) at inv.left
+module _ (words tags : List ℕ) (end : ℕ) (t : end ≤ length tags) (w : end ≤ length words) where
+  pub hash_small : (at i : ℕ) → at ≤ i → i < end → All Small (refs (between tags words at end)) → All Small (ref_of (target (get_or tags i 0)) (get_or words i 0) [])
+  hash_small at i l h a = all_here tags words i end h t w Small (all-from at (i - at) (omega arith) (omega arith) a)
+    where
+      all-from : (at n : ℕ) → at + n ≤ end → i ≡ at + n → All Small (refs (between tags words at end)) → All Small (refs (between tags words i end))
+      all-from at zero l e a = subst (λ k. All Small (refs (between tags words k end))) {x = at} {y = i} (omega arith) a
+      all-from at (suc n) l e a = all-from (suc at) n (omega arith) (omega arith) (all-next tags words at end (omega arith) t w Small a)
 
-      module _ (less : i < end) where
-        pub hash_small : All Small (ref_of (target (get_or tags i 0)) (get_or words i 0) [])
-        hash_small = all_here tags words i end less st.in_tags st.in_words Small inv.good
-
-        pub hash-next : (w : ℕ) → w ≡ through went (get_or tags i 0) (get_or words i 0) → (b : ℕ) → b ≡ bare_w (target (get_or tags i 0)) w → (r : ℕ) → (r ≡ mix h b) × (r < 2 ^ 24) → Hashing r (i + 1)
-        unfolding mixed bare
-        hash-next w we b be r re =
-            let c = carried-next tags words i end less st.in_tags st.in_words went in
-            let a = rw c at inv.left in
-            record { within = omega arith; small = re.1; good = rw add-one (all-next tags words i end less st.in_tags st.in_words Small inv.good); left = rw (re.0, be, we, add-one i) a }
+-- a range that yields has its end, and goes up
+pub range_within : (xs : List ℕ) (s t : Range ℕ) → Yields nat_range_steps s xs t → (t.end ≡ s.end) × (s.start ≤ t.start)
+range_within [] s t y = (sym (ap (λ k. k.end) y), omega (arith, ap (λ (k : Range ℕ). k.start) y))
+range_within (x ∷ xs) s t y = let h = range_within xs y.0 t y.2 in (h.0 ∙ y.1.0, omega (arith, h.1, y.1.1.2))
 
 -- ---- comparing
 alike-short : (a b : Cells) → (length a ≡ length b → ⊥) → alike a b ≡ false

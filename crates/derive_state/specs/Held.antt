@@ -20,13 +20,15 @@ use Rattle.derive_state.specs.declared.Full.{Full}
 use Rattle.derive_state.specs.declared.Sizes.{Sizes as Sizes'}
 use Rattle.derive_state.specs.declared.DerivedMut.{DerivedMut}
 
--- ---- arrays of arrays
+-- ---- arrays of arrays: row t
 abbrev pub row : List (List ℕ) → ℕ → List ℕ
 row m t = slice_index_or m t []
 
+-- word i of row t
 abbrev pub cell : List (List ℕ) → ℕ → ℕ → ℕ
 cell m t i = slice_index (slice_index_or m t []) i
 
+-- the rows with v there
 abbrev pub put : List (List ℕ) → ℕ → ℕ → ℕ → List (List ℕ)
 put m t i v = slice_set m t (slice_set (slice_index_or m t []) i v)
 
@@ -35,6 +37,7 @@ put m t i v = slice_set m t (slice_set (slice_index_or m t []) i v)
 unfoldable pub rec_at : List ℕ → List ℕ → ℕ → Cells
 rec_at log logtags s = between logtags log (suc s) (suc s + slice_index log s)
 
+-- the records at these places
 unfoldable pub recs_at : List ℕ → List ℕ → List ℕ → List Cells
 recs_at log logtags [] = []
 recs_at log logtags (s ∷ ss) = rec_at log logtags s ∷ recs_at log logtags ss
@@ -43,12 +46,15 @@ recs_at log logtags (s ∷ ss) = rec_at log logtags s ∷ recs_at log logtags ss
 abbrev pub table_of : List ℕ → List ℕ → List (List ℕ) → List ℕ → ℕ → List Cells
 table_of log logtags starts counts t = recs_at log logtags (take (slice_index counts t) (slice_index_or starts t []))
 
+-- the six tables
 unfoldable pub recs_of : List ℕ → List ℕ → List (List ℕ) → List ℕ → Tables
 recs_of log logtags starts counts = six (λ t. table_of log logtags starts counts (code_t t))
 
+-- the functions
 unfoldable pub functions_of : List ℕ → List ℕ → List (List ℕ) → List ℕ → List Function
 functions_of log logtags starts counts = map function_of (table_of log logtags starts counts 6)
 
+-- the entry points
 unfoldable pub entries_of : List ℕ → List ℕ → List (List ℕ) → List ℕ → List Entry
 entries_of log logtags starts counts = map entry_of (table_of log logtags starts counts 7)
 
@@ -57,6 +63,7 @@ entries_of log logtags starts counts = map entry_of (table_of log logtags starts
 unfoldable pub maps_of : List ℕ → List (List ℕ) → Maps
 maps_of words maps = six (λ t. take (count_at (code_t t) words) (slice_index_or maps (code_t t) []))
 
+-- the model's state that the arrays hold
 unfoldable pub st_of : List ℕ → List ℕ → List ℕ → List (List ℕ) → List (List ℕ) → List ℕ → Sizes → Derived
 st_of words log logtags starts maps special e = record {
   recs = recs_of log logtags starts e.counts;
@@ -71,6 +78,7 @@ unfoldable pub size_r : List Cells → ℕ
 size_r [] = 0
 size_r (c ∷ cs) = suc (length c) + size_r cs
 
+-- words that the six tables take
 unfoldable pub size_s : Tables → ℕ
 size_s T = size_r T.of_names + (size_r T.of_types + (size_r T.of_constants + (size_r T.of_overrides + (size_r T.of_globals + size_r T.of_exprs))))
 
@@ -103,6 +111,7 @@ Nameless = Each (λ c. class c ≢ NAME)
 abbrev pub Apart : List Cells → Type 0
 Apart ds = (k : ℕ) → k < length ds → index_of ds (slice_index_or ds k []) ≡ k
 
+-- arrays and sizes that hold a good state
 pub record ValidArrays (log logtags : List ℕ) (starts maps : List (List ℕ)) (buckets : List ℕ) (e : Sizes) : Type 0 where
   -- the image fits
   pub room : 23 + 2 * e.pairs + e.loglen ≤ 16384
@@ -178,7 +187,7 @@ pub record SameArrays (d d' : DerivedMut) : Type 0 where
 abbrev pub Valid : DerivedMut → Sizes' → Type 0
 Valid d e = ValidArrays d.log.now d.logtags.now d.starts.now d.maps.now d.buckets.now (going e)
 
--- ImportEnsures of what an operation makes of them
+-- ImportEnsures of what an operation makes of a derived module and its sizes
 pub record Imports (words : List ℕ) (f : Derived → Derived) (d : DerivedMut) (e : Sizes') (r : Result Sizes' Full) (d' : DerivedMut) : Type 0 where
   pub does : ImportEnsures words f d.log.now d.logtags.now d.starts.now d.maps.now d.buckets.now (going e) (told r) d'.log.now d'.logtags.now d'.starts.now d'.maps.now d'.buckets.now
   pub same : SameArrays d d'
@@ -190,6 +199,7 @@ pub record ImportOrUndoEnsures (words : List ℕ) (f : Derived → Derived) (log
   pub is : r.full ≡ false → ((special : List ℕ) → f (st_of words log₀ logtags₀ starts₀ maps₀ special e) ≡ st_of words log logtags starts maps special r) × ValidArrays log logtags starts maps buckets r
   pub beside : r.full ≡ false → Beside starts₀ starts e r
 
+-- ImportOrUndoEnsures of what an operation makes of a derived module and its sizes
 pub record ImportsOrUndoes (words : List ℕ) (f : Derived → Derived) (d : DerivedMut) (e : Sizes') (r : Result Sizes' Full) (d' : DerivedMut) : Type 0 where
   pub does : ImportOrUndoEnsures words f d.log.now d.logtags.now d.starts.now d.maps.now (going e) (told r) d'.log.now d'.logtags.now d'.starts.now d'.maps.now d'.buckets.now
   pub same : SameArrays d d'

@@ -6,15 +6,19 @@ use Rattle.model.specs.Outcome.{Cells, word}
 use Rattle.theory_records.specs.RecordLaws.{bare}
 use Rattle.intake_distinct.specs.Places.{mixed}
 
+-- how many buckets there are
 abbrev pub MARKS : ℕ
 MARKS = 16384
 
+-- a bucket of records of several numbers
 abbrev pub SEVERAL : ℕ
 SEVERAL = 65535
 
+-- the hash of a record of table t
 unfoldable pub hash_r : ℕ → Cells → ℕ
 hash_r t cs = mixed (map word (bare cs)) t
 
+-- its bucket
 abbrev pub place_r : ℕ → Cells → ℕ
 place_r t cs = hash_r t cs % MARKS
 

@@ -2,7 +2,7 @@
 use Rattle.std.specs.Coded.{×_prop, Unit-prop, le_prop}
 use Rattle.std.specs.Prelude.{ℕ, zero, suc, ◌+◌, ◌<◌, List, [], ◌∷◌, slice_index, slice_index_or}
 use Rattle.model.specs.Tables.{Tab, names, types, constants, overrides, globals, exprs, code_t}
-use Rattle.model.specs.References.{Place, table, own, function, Target, copied, start, upto, ref, opt, target, Node}
+use Rattle.model.specs.References.{Place, table, own, function, Target, copied, start, upto, ref, opt, Node}
 use Rattle.theory_records.specs.RecordLaws.{All}
 use Rattle.derive_state.specs.declared.Target.{Target as Target'}
 use Rattle.derive_state.specs.declared.Target.TheVariants as code
@@ -39,6 +39,7 @@ means (code.Optional t) = opt (table (tab_of t))
 means code.Own = ref own
 means code.OptionalOwn = opt own
 
+-- a target as the code has it: a word of a span refers to nothing
 unfoldable pub unspanned : Target → Target
 unspanned copied = copied
 unspanned start = copied

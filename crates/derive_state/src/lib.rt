@@ -5,24 +5,38 @@
 
 ghost use Rattle.std.specs.Prelude.{◌≡◌, suc, pred, ◌+◌, ◌-◌, ◌*◌, ◌<◌, ◌≤◌, true, false, ◌||◌, [], eqb, length, replicate, slice_index, slice_set};
 ghost use Rattle.model.specs.Table.{SPAN as SPAN', UPTO as UPTO'};
-ghost use Rattle.model.specs.References.{target, ref_of, through, undefined_at, first_word, moved as movedOf, shift, alike_c, alike as alikeOf};
+ghost use Rattle.model.specs.Between.{between, Stretch};
+ghost use Rattle.model.specs.References.{target, refs, ref_of, through, undefined_at, first_word, moved as movedOf, shift, alike_c, alike as alikeOf};
+ghost use Rattle.model.specs.Numbers.{numbered};
+ghost use Rattle.model.specs.Lower.{lower};
+ghost use Rattle.model.specs.Names.{named};
 ghost use Rattle.theory_records.specs.RecordLaws.{All, bare_w};
-ghost use Rattle.derive_state.specs.Refers.{means, unspanned, InTable, went_r, Small};
+ghost use Rattle.derive_state.specs.Source.{mod_of};
+ghost use Rattle.derive_state.specs.Refers.{means, unspanned, InTable, went_r, Small, small_prop};
 ghost use Rattle.derive_state.specs.Marks.{MARKS, hash_r, place_r};
 ghost use Rattle.derive_state.specs.Held.{rec_at, Written, carried_by};
 ghost use Rattle.base_refusals.specs.declared.Refusal.TheVariants.{Full as full};
 
 use base_classes::{SPAN, UPTO};
 use base_refusals::Refusal;
-use base_views::{CONSTANTS, EXPRESSIONS, GLOBALS, Image, NAMES, OVERRIDES, TYPES};
+use base_views::{CONSTANTS, Cells, EXPRESSIONS, GLOBALS, HEADER, Image, NAMES, OVERRIDES, TYPES};
 use intake_distinct::mix;
 use std::num::wrapping_add_u32;
 
-mod shader_record;
+mod reference;
 mod special_types;
 
-pub use shader_record::ShaderRecord;
+pub use reference::Reference;
 pub use special_types::Special;
+
+// How many words the log has, and so the image that is written of it.
+pub const MOST_WORDS: usize = 16384;
+
+// How many buckets there are.
+const BUCKETS: usize = 16384;
+
+// How many words an image has without its records and pairs: the header, and the three optional types.
+const BARE: usize = HEADER + 3;
 
 // The words of all derived records.
 pub type Log = [u32; 16384];
@@ -107,7 +121,7 @@ impl Sizes {
         requires { 23 + 2 * self.pairs + self.loglen ≤ 16384 }
         ensures { result + (23 + 2 * self.pairs + self.loglen) ≡ 16384 }
     {
-        16361 - 2 * self.pairs as usize - self.loglen as usize
+        MOST_WORDS - BARE - 2 * self.pairs as usize - self.loglen as usize
     }
 }
 
@@ -123,8 +137,9 @@ impl From<Full> for Refusal {
     }
 }
 
-// The derived module for those that only read it: the arrays, and how much of them is in use. What they hold is in clauses: a function is looked for in a module that is
-// built, whose names differ, and finishing makes another of the records that it chooses, of which less is asked.
+// The derived module for those that only read it: the arrays, and how much of them is in use. What the arrays hold is no ghost field here: two types refer to a `Derived` and say it, each what is asked
+// of its own. In a `NamedDerived` of derive_lookup names differ, and functions begin with theirs; in `WritableTables` of derive_sections records lie in the log. Finishing makes a `Derived` that is
+// written, with the names in their new order, and in which no name is looked for.
 #[derive(Clone, Copy)]
 pub struct Derived<'a> {
     pub log: &'a Log,
@@ -161,11 +176,55 @@ impl DerivedMut<'_> {
     }
 }
 
-// A source: its image, and the offset of its spans.
+// A source: its image, which passed tests 3 and 4 of intake, and the offset of its spans.
 #[derive(Clone, Copy)]
 pub struct ShaderSource<'a> {
     pub image: Image<'a>,
     pub offset: u32,
+    pub ghost test_3: { numbered (mod_of image.words.now image.n) ≡ true },
+    pub ghost test_4: { lower (mod_of image.words.now image.n) ≡ true },
+}
+
+// A source that passed test 5 of intake too, so that its functions are told apart by their names. It has the fields of a `ShaderSource` and no `ShaderSource` in it: nearly every contract above
+// names the words, classes and length of the image, which are `source.image.words.now` of both kinds so, and would be `source.source.image.words.now` of this one.
+#[derive(Clone, Copy)]
+pub struct NamedSource<'a> {
+    pub image: Image<'a>,
+    pub offset: u32,
+    pub ghost test_3: { numbered (mod_of image.words.now image.n) ≡ true },
+    pub ghost test_4: { lower (mod_of image.words.now image.n) ≡ true },
+    pub ghost test_5: { named (mod_of image.words.now image.n) ≡ true },
+}
+
+impl<'a> NamedSource<'a> {
+    // What asks nothing of the names.
+    pub fn source(self) -> ShaderSource<'a>
+        ensures { (result.image ≡ self.entry.image) × (result.offset ≡ self.entry.offset) }
+    {
+        ShaderSource {
+            image: self.image,
+            offset: self.offset,
+        }
+    }
+}
+
+// A record of a source: its words lie from `at` to `end`, and the numbers in them are in the rows of the maps.
+#[derive(Clone, Copy)]
+pub struct ShaderRecord<'a> {
+    pub cells: Cells<'a>,
+    pub at: usize,
+    pub end: usize,
+    pub ghost stretch: { Stretch cells.words.now cells.tags.now at end },
+    pub ghost small: { All Small (refs (between cells.tags.now cells.words.now at end)) } by { small_prop (refs (between cells.tags.now cells.words.now at end)) },
+}
+
+impl ShaderRecord<'_> {
+    // How many words it has.
+    pub fn len(self) -> usize
+        ensures { result ≡ self.entry.end - self.entry.at }
+    {
+        self.end - self.at
+    }
 }
 
 // Clears all maps: nothing is mapped.
@@ -212,14 +271,15 @@ pub fn target_of(class: u8) -> Target
     }
 }
 
-// One less than v, and 0 of 0.
+// The number that is kept plus 1, and 0 where none is: one less than v, and 0 of 0. `v.saturating_sub(1)` in its place would say how, and not why.
 pub fn number_of(v: u32) -> u32
     ensures { result ≡ pred v }
 {
     v.saturating_sub(1)
 }
 
-// A word carried through the maps.
+// A word carried through the maps. A class and its word are two parameters, here, below and in `referent_of` of derive_imports, and no struct: most words that go with a class are carried, and are no
+// longer those that the image has there. `moved(Cell { class: s, word: w }, offset, u)` would put together what stands in two variables, and `moved` take it apart: it is `moved(s, w, offset, u)`.
 pub fn carried(maps: &Maps, s: u8, w: u32) -> u32
     requires all { All Small (ref_of (target s) w []) }
     ensures { result ≡ through (went_r maps.now) s w }
@@ -251,18 +311,19 @@ pub fn alike_cell(a: u32, x: u32, b: u8, y: u32) -> bool
     a == b as u32 && (x == y || is_span(b))
 }
 
-// Whether the record at s is what the source's record becomes, ignoring spans. A loop: with `all` in its place, which was proved, a word takes three instructions more.
-pub fn alike(source: ShaderRecord, derived: &Derived, s: usize) -> bool
+// Whether the record at s is what the source's record becomes, ignoring spans. A loop: with `all` in its place, which was proved, a word takes three
+// instructions more, where it takes 23 with what calls it.
+pub fn alike(original: ShaderRecord, derived: &Derived, s: usize) -> bool
     requires { (s + suc (slice_index derived.now.log.now s) ≤ 16384) × (length derived.now.log.now ≡ 16384) × (length derived.now.logtags.now ≡ 16384) }
-    ensures { result ≡ alikeOf (rec_at derived.now.log.now derived.now.logtags.now s) (carried_by (went_r derived.now.maps.now) source.entry.image.tags.now source.entry.image.words.now source.entry.at source.entry.end) }
+    ensures { result ≡ alikeOf (rec_at derived.now.log.now derived.now.logtags.now s) (carried_by (went_r derived.now.maps.now) original.entry.cells.tags.now original.entry.cells.words.now original.entry.at original.entry.end) }
 {
-    if derived.log[s] as usize != source.len() {
+    if derived.log[s] as usize != original.len() {
         return false;
     }
-    for j in source.at..source.end {
-        let q = s + 1 + (j - source.at);
-        let b = source.image.tags[j];
-        let y = carried(derived.maps, b, source.image.words[j]);
+    for j in original.at..original.end {
+        let q = s + 1 + (j - original.at);
+        let b = original.cells.tags[j];
+        let y = carried(derived.maps, b, original.cells.words[j]);
         if !alike_cell(derived.logtags[q] as u32, derived.log[q], b, y) {
             return false;
         }
@@ -278,24 +339,22 @@ fn bare_word(s: u8, w: u32) -> u32
 }
 
 // The hash of what the source's record becomes in table t.
-fn hash(source: ShaderRecord, maps: &Maps, t: usize) -> usize
+fn hash(original: ShaderRecord, maps: &Maps, t: usize) -> usize
     requires { t < 8 }
-    ensures { result ≡ hash_r t (carried_by (went_r maps.now) source.entry.image.tags.now source.entry.image.words.now source.entry.at source.entry.end) }
+    ensures { result ≡ hash_r t (carried_by (went_r maps.now) original.entry.cells.tags.now original.entry.cells.words.now original.entry.at original.entry.end) }
 {
-    let mut h = t;
-    for j in source.at..source.end {
-        let s = source.image.tags[j];
-        h = mix(h, bare_word(s, carried(maps, s, source.image.words[j])));
-    }
-    h
+    (original.at..original.end).fold(t, |h, j| {
+        let s = original.cells.tags[j];
+        mix(h, bare_word(s, carried(maps, s, original.cells.words[j])))
+    })
 }
 
 // Its place among the buckets.
-pub fn bucket_of(source: ShaderRecord, maps: &Maps, t: usize) -> usize
+pub fn bucket_of(original: ShaderRecord, maps: &Maps, t: usize) -> usize
     requires { t < 8 }
-    ensures { (result ≡ place_r t (carried_by (went_r maps.now) source.entry.image.tags.now source.entry.image.words.now source.entry.at source.entry.end)) × (result < MARKS) }
+    ensures { (result ≡ place_r t (carried_by (went_r maps.now) original.entry.cells.tags.now original.entry.cells.words.now original.entry.at original.entry.end)) × (result < MARKS) }
 {
-    hash(source, maps, t) % 16384
+    hash(original, maps, t) % BUCKETS
 }
 
 // Whether the span last met is undefined, once the word w of the class s is read, which `next` follows.
@@ -317,12 +376,12 @@ pub fn moved(s: u8, w: u32, offset: u32, u: bool) -> u32
 }
 
 // What word i of the source's record becomes; 0 at the end.
-fn carried_or_end(source: ShaderRecord, maps: &Maps, i: usize) -> u32
-    requires { source.at ≤ i }
-    ensures { result ≡ first_word (carried_by (went_r maps.now) source.entry.image.tags.now source.entry.image.words.now i source.entry.end) }
+fn carried_or_end(original: ShaderRecord, maps: &Maps, i: usize) -> u32
+    requires { original.at ≤ i }
+    ensures { result ≡ first_word (carried_by (went_r maps.now) original.entry.cells.tags.now original.entry.cells.words.now i original.entry.end) }
 {
-    if i < source.end {
-        carried(maps, source.image.tags[i], source.image.words[i])
+    if i < original.end {
+        carried(maps, original.cells.tags[i], original.cells.words[i])
     } else {
         0
     }
@@ -332,22 +391,22 @@ fn carried_or_end(source: ShaderRecord, maps: &Maps, i: usize) -> u32
 // `function_builder` has this loop and its `carried_or_end` for a stack: one function of both would take what a word becomes and where it is put as two closures,
 // which are all of the loop but three lines.
 pub fn write(
-    source: ShaderRecord,
+    original: ShaderRecord,
     offset: u32,
     log: &mut Log,
     logtags: &mut LogTags,
     maps: &Maps,
     to: usize,
 )
-    requires { (to + (source.end - source.at) ≤ 16384) × (length log.old ≡ 16384) × (length logtags.old ≡ 16384) }
-    ensures { Written (shift (carried_by (went_r maps.now) source.entry.image.tags.now source.entry.image.words.now source.entry.at source.entry.end) offset false) to log.old logtags.old log.new logtags.new }
+    requires { (to + (original.end - original.at) ≤ 16384) × (length log.old ≡ 16384) × (length logtags.old ≡ 16384) }
+    ensures { Written (shift (carried_by (went_r maps.now) original.entry.cells.tags.now original.entry.cells.words.now original.entry.at original.entry.end) offset false) to log.old logtags.old log.new logtags.new }
 {
     let mut u = false;
-    let mut w = carried_or_end(source, maps, source.at);
-    for j in source.at..source.end {
-        let q = to + (j - source.at);
-        let s = source.image.tags[j];
-        let next = carried_or_end(source, maps, j + 1);
+    let mut w = carried_or_end(original, maps, original.at);
+    for j in original.at..original.end {
+        let q = to + (j - original.at);
+        let s = original.cells.tags[j];
+        let next = carried_or_end(original, maps, j + 1);
         u = undefined_at(s, w, next, u);
         log[q] = moved(s, w, offset, u);
         logtags[q] = s;

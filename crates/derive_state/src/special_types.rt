@@ -9,6 +9,7 @@ ghost use Rattle.derive_state.specs.Flats.{pairs_at, special_of};
 ghost use Rattle.derive_state.specs.Pairs.{flat, pairs_in, rays_back, pairs_back};
 ghost use Rattle.std.proofs.Common.{ap₂};
 
+use base_words::Words;
 use std::marker::Model;
 
 // A key, and the number of the type that is derived for it.
@@ -72,7 +73,7 @@ impl Special {
         self.rays[k] = v;
     }
 
-    // There are no optional types then.
+    // Takes the optional types away.
     pub fn clear_rays(&mut self)
         ensures { self.new ≡ slice_set (slice_set (slice_set self.old 0 0) 1 0) 2 0 }
     {
@@ -97,11 +98,12 @@ impl Special {
     }
 
     // Writes them with the first n pairs, from `at` on.
-    pub fn write(&self, n: usize, out: &mut [u32; 16384], at: usize)
+    pub fn write(&self, n: usize, out: &mut Words, at: usize)
         requires { (n ≤ 512) × (at + 3 + 2 * n ≤ 16384) × (length out.old ≡ 16384) }
         ensures { out.new ≡ sets out.old at (take (3 + 2 * n) self.now) }
     {
         out[at..at + 3].copy_from_slice(&self.rays);
+        // by places: with `out[at + 3..at + 3 + 2 * n].chunks_exact_mut(2).zip(&self.pairs[..n])` it would have the length of what is written, and write to places 0 and 1
         for (j, pair) in self.pairs[..n].iter().enumerate() {
             out[at + 3 + 2 * j] = pair.key;
             out[at + 4 + 2 * j] = pair.number;

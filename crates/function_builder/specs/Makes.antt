@@ -58,9 +58,10 @@ pub record Hops (stacks : List (List ℕ)) (e₁ made i s y k r : ℕ) : Type 0 
   pub high : r ≤ made
   pub not : (j : ℕ) → k ≤ j → j < r → (c : ℕ) → cell stacks 2 (e₁ + j) + i < 16384 → alike_c (c, cell stacks 0 (cell stacks 2 (e₁ + j) + i)) (s, y) ≡ false
 
--- one word more on the other
+-- one word more on the other; where there is no room for it the stacks stay
 pub record Pushed (w : ℕ) (stacks₀ : List (List ℕ)) (e r : Sizes) (stacks : List (List ℕ)) : Type 0 where
   pub over : r.full ≡ true → e.bodytop ≡ 16384
+  pub stays : r.full ≡ true → stacks ≡ stacks₀
   pub is : r.full ≡ false → stacks ≡ put stacks₀ 3 e.bodytop w
   pub ends : r.full ≡ false → r ≡ record { full = false; loglen = e.loglen; counts = e.counts; pairs = e.pairs; exprtop = e.exprtop; bodytop = e.bodytop + 1; made = e.made }
   pub room : r.full ≡ false → e.bodytop < 16384

@@ -11,21 +11,25 @@ use Rattle.derive_state.specs.Held.{row, cell, st_of}
 use Rattle.derive_state.specs.Sizes.{Sizes}
 use Rattle.function_references.specs.Cuts.{cut, Rising}
 
--- ---- what numbers are mapped to: by the rows, by the function's own map, by name; and the same but for functions
+-- ---- what numbers are mapped to
+-- by the rows and by the function's own map; a function is not mapped so
 unfoldable pub went_by : List (List ℕ) → List ℕ → Place → ℕ → ℕ
 went_by maps exprmap (table t) j = cell maps (code_t t) j
 went_by maps exprmap own j = get_or exprmap j 0
 went_by maps exprmap function j = 0
 
+-- the same, and functions by their names
 unfoldable pub went_of : List ℕ → ℕ → List ℕ → List ℕ → List (List ℕ) → List (List ℕ) → Sizes → List ℕ → Place → ℕ → ℕ
 went_of words n log logtags starts maps e exprmap (table t) j = cell maps (code_t t) j
 went_of words n log logtags starts maps e exprmap own j = get_or exprmap j 0
 went_of words n log logtags starts maps e exprmap function j = known (mod_of words n) (st_of words log logtags starts [] [] e) j
 
--- ---- the stacks: words and classes of expressions, where each starts, and words of declarations, bodies and names; a function's expressions start at e₁
+-- ---- the stacks: words and classes of expressions, where each starts, and words of declarations, bodies and names
+-- where the expressions of a function start, whose first one starts at e₁
 unfoldable pub seats_of : List (List ℕ) → ℕ → Sizes → List ℕ
 seats_of stacks e₁ e = slice e₁ (e₁ + e.made) (row stacks 2)
 
+-- their cells
 unfoldable pub made_of : List (List ℕ) → ℕ → Sizes → List Cells
 made_of stacks e₁ e = cut (seats_of stacks e₁ e) e.exprtop (row stacks 1) (row stacks 0)
 

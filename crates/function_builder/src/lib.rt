@@ -10,22 +10,24 @@ ghost use Rattle.model.specs.Bodies.{append_expr as pushE, intern_expr};
 ghost use Rattle.theory_records.specs.RecordLaws.{All};
 ghost use Rattle.theory_passes.specs.Light.{still};
 ghost use Rattle.derive_state.specs.Refers.{target_of};
-ghost use Rattle.derive_state.specs.Source.{mod_of};
 ghost use Rattle.derive_state.specs.Held.{row, carried_by};
-ghost use Rattle.derive_lookup.specs.Bearing.{Bearing};
-ghost use Rattle.function_references.specs.Fits.{FitN, Ground};
-ghost use Rattle.function_references.specs.Cuts.{next_of, Rising, exprs_of, Expressions, Expressions-prop};
-ghost use Rattle.function_builder.specs.Stacks.{went_by, went_of, seats_of, made_of, Stacks, Under};
-ghost use Rattle.function_builder.specs.Makes.{Lays, Wrote, Hops, Pushed};
+ghost use Rattle.function_references.specs.Fits.{FitN};
+ghost use Rattle.function_references.specs.Cuts.{next_of, Rising};
+ghost use Rattle.function_builder.specs.Stacks.{went_by, seats_of, made_of, Stacks, Under};
+ghost use Rattle.function_builder.specs.Makes.{Wrote, Hops, Pushed};
+ghost use Rattle.function_builder.specs.Read.{module_of, expressions_of, went_in, carried_piece, LaysOf};
 ghost use Rattle.derive_state.specs.Sizes.{going, told};
 
-use base_views::Image;
-use derive_lookup::known;
+use derive_lookup::{NamedDerived, known};
 use derive_state::{
-    Derived, ExprMap, Full, Maps, Places, ShaderSource, Sizes, StackRows, Target, alike_cell,
-    is_span, moved, number_of, target_of, undefined_at,
+    ExprMap, Full, Maps, NamedSource, Sizes, StackRows, Target, alike_cell, is_span, moved,
+    number_of, target_of, undefined_at,
 };
 use function_references::Piece;
+
+mod shader_function;
+
+pub use shader_function::ShaderFunction;
 
 // The rows of the stacks: words and classes of expressions, where each of them starts, and words of declarations, bodies and names. Numbers, since C lends the
 // stacks as one array of four rows; four borrows of it were tried: no pattern takes apart an array behind `&mut`, and `split_first_mut` gives an Option for each row.
@@ -37,34 +39,10 @@ pub const SEATS: usize = 2;
 
 pub const BODY: usize = 3;
 
-// A function of a source that is imported: where each of its expressions starts in the image and where the last one ends, and how many there are; and where the
-// derived ones start on the stack, by their places. What is written of it, `exprmap` and the stacks, stays two parameters: the map is read without the stacks
-// wherever a word is carried, and the stacks, which all functions in progress share, are written without a map. One struct of both and of `derived` would have a
-// struct of mutable borrows in it, and two fields of a struct in a struct cannot be lent at once (docs/DESIGN-PASS.md, "Tried and learnt").
-#[derive(Clone, Copy)]
-pub struct ShaderFunction<'a, 'p> {
-    pub source: ShaderSource<'a>,
-    pub places: &'p Places,
-    pub count: usize,
-    pub base: usize,
-    pub ghost expressions: { Expressions source.image.words.now source.image.tags.now places.now count } by { Expressions-prop source.image.words.now source.image.tags.now places.now count },
-}
+// How many words a row has: a name for the number in the type `StackRows`, where `len()` would name the stacks and a row at each of its five uses.
+pub const ROW_LEN: usize = 16384;
 
-impl<'a> ShaderFunction<'a, '_> {
-    // Expression e.
-    pub fn expression(self, e: usize) -> Piece<'a>
-        requires { e < self.count }
-        ensures { (result.source ≡ self.entry.source) × (result.at ≡ get_or self.entry.places.now e 0) × (result.end ≡ get_or self.entry.places.now (e + 1) 0) }
-    {
-        Piece {
-            source: self.source,
-            at: self.places[e] as usize,
-            end: self.places[e + 1] as usize,
-        }
-    }
-}
-
-// A word carried through the maps, of a class that names no function.
+// A word carried through the maps, of a class that names no function. Class and word are two parameters, for the reason beside `derive_state::carried`.
 pub fn by_maps(maps: &Maps, exprmap: &ExprMap, s: u8, w: u32) -> u32
     requires fact { target_of (target s) ≡ 7 → ⊥ }
     requires by_index { (ws : List ℕ) × All (FitN ws 1024) (ref_of (target s) w []) }
@@ -79,35 +57,31 @@ pub fn by_maps(maps: &Maps, exprmap: &ExprMap, s: u8, w: u32) -> u32
 }
 
 // A word carried through the maps, or to the function of its name: to 0 where no derived function has it, as the model carries what is not mapped.
-pub fn carried(image: Image, derived: &Derived, exprmap: &ExprMap, s: u8, w: u32) -> u32
-    requires ground { Ground image.words.now image.tags.now image.n }
-    requires bearing { Bearing derived.now.log.now derived.now.logtags.now derived.now.starts.now (going derived.now.sizes) }
-    requires all { All (FitN image.words.now 1024) (ref_of (target s) w []) }
-    ensures { result ≡ through (went_of image.entry.words.now image.entry.n derived.now.log.now derived.now.logtags.now derived.now.starts.now derived.now.maps.now (going derived.now.sizes) exprmap.now) s w }
+pub fn carried(source: NamedSource, derived: NamedDerived, exprmap: &ExprMap, s: u8, w: u32) -> u32
+    requires all { All (FitN source.image.words.now 1024) (ref_of (target s) w []) }
+    ensures { result ≡ through (went_in source.entry derived.entry.view.now exprmap.now) s w }
 {
     if let Target::Function = target_of(s) {
-        return known(image, derived, w as usize).unwrap_or(0);
+        return known(source, derived, w as usize).unwrap_or(0);
     }
-    by_maps(derived.maps, exprmap, s, w)
+    by_maps(derived.view.maps, exprmap, s, w)
 }
 
-// What word i of a piece becomes.
-fn carried_at(piece: &Piece, derived: &Derived, exprmap: &ExprMap, i: usize) -> u32
-    requires ground { Ground piece.now.source.image.words.now piece.now.source.image.tags.now piece.now.source.image.n }
-    requires bearing { Bearing derived.now.log.now derived.now.logtags.now derived.now.starts.now (going derived.now.sizes) }
+// What word i of a piece becomes. The piece is lent, here and in what is called at each word: by value, a struct of its size costs 12 percent more instructions there.
+// `find_equal` lends it on. `write`, which callers call once for a piece that they made, takes it by value.
+fn carried_at(piece: &Piece, derived: NamedDerived, exprmap: &ExprMap, i: usize) -> u32
     requires i_bound { (piece.now.at ≤ i) × (i < piece.now.end) }
-    ensures { result ≡ through (went_of piece.now.source.image.words.now piece.now.source.image.n derived.now.log.now derived.now.logtags.now derived.now.starts.now derived.now.maps.now (going derived.now.sizes) exprmap.now) (get_or piece.now.source.image.tags.now i 0) (get_or piece.now.source.image.words.now i 0) }
+    ensures { result ≡ through (went_in piece.now.source derived.entry.view.now exprmap.now) (get_or piece.now.source.image.tags.now i 0) (get_or piece.now.source.image.words.now i 0) }
 {
     let image = piece.source.image;
-    carried(image, derived, exprmap, image.tags[i], image.words[i])
+    let (s, w) = (image.tags[i], image.words[i]);
+    carried(piece.source, derived, exprmap, s, w)
 }
 
 // The same, and 0 at the end.
-fn carried_or_end(piece: &Piece, derived: &Derived, exprmap: &ExprMap, i: usize) -> u32
-    requires ground { Ground piece.now.source.image.words.now piece.now.source.image.tags.now piece.now.source.image.n }
-    requires bearing { Bearing derived.now.log.now derived.now.logtags.now derived.now.starts.now (going derived.now.sizes) }
+fn carried_or_end(piece: &Piece, derived: NamedDerived, exprmap: &ExprMap, i: usize) -> u32
     requires i_bound { piece.now.at ≤ i }
-    ensures { result ≡ first_word (carried_by (went_of piece.now.source.image.words.now piece.now.source.image.n derived.now.log.now derived.now.logtags.now derived.now.starts.now derived.now.maps.now (going derived.now.sizes) exprmap.now) piece.now.source.image.tags.now piece.now.source.image.words.now i piece.now.end) }
+    ensures { result ≡ first_word (carried_by (went_in piece.now.source derived.entry.view.now exprmap.now) piece.now.source.image.tags.now piece.now.source.image.words.now i piece.now.end) }
 {
     if i < piece.end {
         carried_at(piece, derived, exprmap, i)
@@ -117,16 +91,14 @@ fn carried_or_end(piece: &Piece, derived: &Derived, exprmap: &ExprMap, i: usize)
 }
 
 // Writes what the words of a piece become on the top of the stack of expressions.
-pub fn write(piece: Piece, derived: &Derived, exprmap: &ExprMap, stacks: &mut StackRows)
-    requires ground { Ground piece.source.image.words.now piece.source.image.tags.now piece.source.image.n }
-    requires bearing { Bearing derived.now.log.now derived.now.logtags.now derived.now.starts.now (going derived.now.sizes) }
-    requires stacks { (Stacks stacks.old (going derived.now.sizes)) × (derived.now.sizes.exprtop + (piece.end - piece.at) ≤ 16384) }
-    ensures { Wrote (shift (carried_by (went_of piece.entry.source.image.words.now piece.entry.source.image.n derived.now.log.now derived.now.logtags.now derived.now.starts.now derived.now.maps.now (going derived.now.sizes) exprmap.now) piece.entry.source.image.tags.now piece.entry.source.image.words.now piece.entry.at piece.entry.end) piece.entry.source.offset false) derived.now.sizes.exprtop stacks.old stacks.new }
+pub fn write(piece: Piece, derived: NamedDerived, exprmap: &ExprMap, stacks: &mut StackRows)
+    requires stacks { (Stacks stacks.old (going derived.view.now.sizes)) × (derived.view.now.sizes.exprtop + (piece.end - piece.at) ≤ 16384) }
+    ensures { Wrote (shift (carried_piece piece.entry derived.entry.view.now exprmap.now) piece.entry.source.offset false) derived.entry.view.now.sizes.exprtop stacks.old stacks.new }
 {
     let mut u = false;
     let mut w = carried_or_end(&piece, derived, exprmap, piece.at);
     for j in piece.at..piece.end {
-        let q = derived.sizes.exprtop as usize + (j - piece.at);
+        let q = derived.view.sizes.exprtop as usize + (j - piece.at);
         let s = piece.source.image.tags[j];
         let next = carried_or_end(&piece, derived, exprmap, j + 1);
         u = undefined_at(s, w, next, u);
@@ -136,25 +108,24 @@ pub fn write(piece: Piece, derived: &Derived, exprmap: &ExprMap, stacks: &mut St
     }
 }
 
-// Appends expression e.
+// Appends expression e. How long a piece is, is `end - at`, here and in two functions below: a method of `Piece` would be a public function, of which the contract says
+// the same difference again.
 pub fn append(
     function: ShaderFunction,
-    derived: &Derived,
+    derived: NamedDerived,
     exprmap: &mut ExprMap,
     stacks: &mut StackRows,
     e: usize,
 ) -> Result<Sizes, Full>
-    requires ground { Ground function.source.image.words.now function.source.image.tags.now function.source.image.n }
-    requires bearing { Bearing derived.now.log.now derived.now.logtags.now derived.now.starts.now (going derived.now.sizes) }
     requires e_lt_k { e < function.count }
-    requires under { Under function.count exprmap.old stacks.old function.base (going derived.now.sizes) }
-    ensures { Lays function.entry.source.image.words.now function.entry.count (pushE function.entry.source.offset (mod_of function.entry.source.image.words.now function.entry.source.image.n) still (exprs_of function.entry.source.image.words.now function.entry.source.image.tags.now function.entry.places.now function.entry.count) e) derived.now.log.now derived.now.logtags.now derived.now.starts.now derived.now.maps.now exprmap.old stacks.old function.entry.base (going derived.now.sizes) (told result) exprmap.new stacks.new }
+    requires under { Under function.count exprmap.old stacks.old function.base (going derived.view.now.sizes) }
+    ensures { LaysOf function.entry (pushE function.entry.source.offset (module_of function.entry.source) still (expressions_of function.entry) e) derived.entry.view.now exprmap.old stacks.old result exprmap.new stacks.new }
 {
     let piece = function.expression(e);
     let words = piece.end - piece.at;
-    let exprtop = derived.sizes.exprtop as usize;
-    let made = derived.sizes.made as usize;
-    if 16384 - exprtop < words {
+    let exprtop = derived.view.sizes.exprtop as usize;
+    let made = derived.view.sizes.made as usize;
+    if ROW_LEN - exprtop < words {
         return Err(Full);
     }
     write(piece, derived, exprmap, stacks);
@@ -163,22 +134,20 @@ pub fn append(
     Ok(Sizes {
         exprtop: (exprtop + words) as u16,
         made: (made + 1) as u16,
-        ..derived.sizes
+        ..derived.view.sizes
     })
 }
 
 // The first word of a piece that does not become, ignoring spans, the word in its place of the expression on the stack that starts at a and is as long.
 fn first_difference(
     piece: &Piece,
-    derived: &Derived,
+    derived: NamedDerived,
     exprmap: &ExprMap,
     stacks: &StackRows,
     a: usize,
 ) -> Option<usize>
-    requires ground { Ground piece.now.source.image.words.now piece.now.source.image.tags.now piece.now.source.image.n }
-    requires bearing { Bearing derived.now.log.now derived.now.logtags.now derived.now.starts.now (going derived.now.sizes) }
-    requires stacks { (Stacks stacks.now (going derived.now.sizes)) × (a + (piece.now.end - piece.now.at) ≤ 16384) }
-    ensures { MatchOption result (true ≡ alike (between (row stacks.now 1) (row stacks.now 0) a (a + (piece.now.end - piece.now.at))) (carried_by (went_of piece.now.source.image.words.now piece.now.source.image.n derived.now.log.now derived.now.logtags.now derived.now.starts.now derived.now.maps.now (going derived.now.sizes) exprmap.now) piece.now.source.image.tags.now piece.now.source.image.words.now piece.now.at piece.now.end)) (λ p. (piece.now.at ≤ p) × (p < piece.now.end) × (false ≡ alike (between (row stacks.now 1) (row stacks.now 0) a (a + (piece.now.end - piece.now.at))) (carried_by (went_of piece.now.source.image.words.now piece.now.source.image.n derived.now.log.now derived.now.logtags.now derived.now.starts.now derived.now.maps.now (going derived.now.sizes) exprmap.now) piece.now.source.image.tags.now piece.now.source.image.words.now piece.now.at piece.now.end))) }
+    requires stacks { (Stacks stacks.now (going derived.view.now.sizes)) × (a + (piece.now.end - piece.now.at) ≤ 16384) }
+    ensures { MatchOption result (true ≡ alike (between (row stacks.now 1) (row stacks.now 0) a (a + (piece.now.end - piece.now.at))) (carried_piece piece.now derived.entry.view.now exprmap.now)) (λ p. (piece.now.at ≤ p) × (p < piece.now.end) × (false ≡ alike (between (row stacks.now 1) (row stacks.now 0) a (a + (piece.now.end - piece.now.at))) (carried_piece piece.now derived.entry.view.now exprmap.now))) }
 {
     (piece.at..piece.end).find(|j| {
         let q = a + (*j - piece.at);
@@ -221,7 +190,7 @@ fn next_candidate(
     }
     (k..made).find(|h| {
         let q = stacks[SEATS][e1 + *h] as usize + i;
-        q < 16384 && stacks[WORDS][q] == y
+        q < ROW_LEN && stacks[WORDS][q] == y
     })
 }
 
@@ -229,18 +198,16 @@ fn next_candidate(
 // expression differed.
 fn find_equal(
     piece: &Piece,
-    derived: &Derived,
+    derived: NamedDerived,
     exprmap: &ExprMap,
     stacks: &StackRows,
     e1: usize,
 ) -> Option<usize>
-    requires ground { Ground piece.now.source.image.words.now piece.now.source.image.tags.now piece.now.source.image.n }
-    requires bearing { Bearing derived.now.log.now derived.now.logtags.now derived.now.starts.now (going derived.now.sizes) }
-    requires stacks { (Stacks stacks.now (going derived.now.sizes)) × (Rising (seats_of stacks.now e1 (going derived.now.sizes)) e1 derived.now.sizes.exprtop) × (length (seats_of stacks.now e1 (going derived.now.sizes)) ≡ derived.now.sizes.made) }
+    requires stacks { (Stacks stacks.now (going derived.view.now.sizes)) × (Rising (seats_of stacks.now e1 (going derived.view.now.sizes)) e1 derived.view.now.sizes.exprtop) × (length (seats_of stacks.now e1 (going derived.view.now.sizes)) ≡ derived.view.now.sizes.made) }
     requires some { piece.now.at < piece.now.end }
-    ensures { MatchOption result (derived.now.sizes.made ≡ seat_of (made_of stacks.now e1 (going derived.now.sizes)) (carried_by (went_of piece.now.source.image.words.now piece.now.source.image.n derived.now.log.now derived.now.logtags.now derived.now.starts.now derived.now.maps.now (going derived.now.sizes) exprmap.now) piece.now.source.image.tags.now piece.now.source.image.words.now piece.now.at piece.now.end)) (λ j. (j < derived.now.sizes.made) × (j ≡ seat_of (made_of stacks.now e1 (going derived.now.sizes)) (carried_by (went_of piece.now.source.image.words.now piece.now.source.image.n derived.now.log.now derived.now.logtags.now derived.now.starts.now derived.now.maps.now (going derived.now.sizes) exprmap.now) piece.now.source.image.tags.now piece.now.source.image.words.now piece.now.at piece.now.end))) }
+    ensures { MatchOption result (derived.entry.view.now.sizes.made ≡ seat_of (made_of stacks.now e1 (going derived.entry.view.now.sizes)) (carried_piece piece.now derived.entry.view.now exprmap.now)) (λ j. (j < derived.entry.view.now.sizes.made) × (j ≡ seat_of (made_of stacks.now e1 (going derived.entry.view.now.sizes)) (carried_piece piece.now derived.entry.view.now exprmap.now))) }
 {
-    let made = derived.sizes.made as usize;
+    let made = derived.view.sizes.made as usize;
     let mut p = piece.end - 1;
     let mut y = carried_at(piece, derived, exprmap, p);
     let mut k = 0;
@@ -250,7 +217,7 @@ fn find_equal(
         let j = next_candidate(stacks, e1, made, p - piece.at, s, y, k)?;
         k = j + 1;
         let a = stacks[SEATS][e1 + j] as usize;
-        let b = expr_end(stacks, derived.sizes, e1, j);
+        let b = expr_end(stacks, derived.view.sizes, e1, j);
         if b - a == piece.end - piece.at {
             let Some(d) = first_difference(piece, derived, exprmap, stacks, a) else {
                 return Some(j);
@@ -265,16 +232,14 @@ fn find_equal(
 // Maps expression e to an equal one on the stack, or appends it.
 pub fn merge(
     function: ShaderFunction,
-    derived: &Derived,
+    derived: NamedDerived,
     exprmap: &mut ExprMap,
     stacks: &mut StackRows,
     e: usize,
 ) -> Result<Sizes, Full>
-    requires ground { Ground function.source.image.words.now function.source.image.tags.now function.source.image.n }
-    requires bearing { Bearing derived.now.log.now derived.now.logtags.now derived.now.starts.now (going derived.now.sizes) }
     requires e_lt_k { e < function.count }
-    requires under { Under function.count exprmap.old stacks.old function.base (going derived.now.sizes) }
-    ensures { Lays function.entry.source.image.words.now function.entry.count (intern_expr function.entry.source.offset (mod_of function.entry.source.image.words.now function.entry.source.image.n) still (exprs_of function.entry.source.image.words.now function.entry.source.image.tags.now function.entry.places.now function.entry.count) e) derived.now.log.now derived.now.logtags.now derived.now.starts.now derived.now.maps.now exprmap.old stacks.old function.entry.base (going derived.now.sizes) (told result) exprmap.new stacks.new }
+    requires under { Under function.count exprmap.old stacks.old function.base (going derived.view.now.sizes) }
+    ensures { LaysOf function.entry (intern_expr function.entry.source.offset (module_of function.entry.source) still (expressions_of function.entry) e) derived.entry.view.now exprmap.old stacks.old result exprmap.new stacks.new }
 {
     if let Some(j) = find_equal(
         &function.expression(e),
@@ -284,7 +249,7 @@ pub fn merge(
         function.base,
     ) {
         exprmap[e] = (j + 1) as u16;
-        return Ok(derived.sizes);
+        return Ok(derived.view.sizes);
     }
     append(function, derived, exprmap, stacks, e)
 }
@@ -295,7 +260,7 @@ pub fn push(stacks: &mut StackRows, ends: Sizes, w: u32) -> Result<Sizes, Full>
     ensures { Pushed w stacks.old (going ends) (told result) stacks.new }
 {
     let bodytop = ends.bodytop as usize;
-    if bodytop == 16384 {
+    if bodytop == ROW_LEN {
         return Err(Full);
     }
     stacks[BODY][bodytop] = w;

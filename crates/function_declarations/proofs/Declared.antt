@@ -32,7 +32,7 @@ module _ {log₀ logtags₀ : List ℕ} {starts₀ maps₀ : List (List ℕ)} {b
       let B = quiet_arrives src o p p I s w (declare_fits K₀ D less) (D.runs.kept refl) (D.runs.under refl) refl Q in
       let y = ap (λ (a : ℕ). moved (target s) a o v) (through_long words n log logtags starts maps e exprmap x s w) ∙ becomes-other (went_of words n log logtags starts maps e exprmap) e.made o s w v (D.left.plain i (le_refl _) less).1 ∙ sym (becomes-by words n log logtags starts maps e exprmap e.made o s w v Q.callee) in
       let z : e.bodytop + suc x ≡ e.bodytop + x + 1 = omega arith in
-      let next = declare_next K₀ D less {v = v} refl B refl (record { over = λ q. absurd (false≢true q); is = λ q. refl; ends = λ q. refl; room = λ q. room }) refl in
+      let next = declare_next K₀ D less {v = v} refl B refl (record { over = λ q. absurd (false≢true q); stays = λ q. absurd (false≢true q); is = λ q. refl; ends = λ q. refl; room = λ q. room }) refl in
       rw (← y, z) (rw (add-one i) at next)
 
   pub declare_run : {stacks : List (List ℕ)} {i : ℕ} {u : Bool} → Declaring words tags n k o p at end log₀ logtags₀ starts₀ maps₀ buckets₀ exprmap₀ stacks₀ e₁ e₀ e log logtags starts maps buckets exprmap stacks i u

@@ -10,22 +10,23 @@ ghost use Rattle.model.specs.Bodies.{Builder, import_initialiser as initialiserE
 ghost use Rattle.theory_records.specs.RecordLaws.{All};
 ghost use Rattle.theory_passes.specs.Pass.{arrive as arriveE, after, written};
 ghost use Rattle.theory_passes.specs.Light.{still};
-ghost use Rattle.derive_state.specs.Source.{mod_of};
 ghost use Rattle.derive_state.specs.Held.{Valid};
-ghost use Rattle.function_references.specs.Fits.{FitN, Ground};
-ghost use Rattle.function_references.specs.Cuts.{exprs_of};
+ghost use Rattle.function_references.specs.Fits.{FitN};
 ghost use Rattle.function_builder.specs.Stacks.{Under};
-ghost use Rattle.function_builder.specs.Makes.{Builds};
-ghost use Rattle.function_words.specs.Runs.{unites, Declares, Passes};
+ghost use Rattle.function_words.specs.Runs.{Declares, unites_in, PassesOf};
+ghost use Rattle.function_builder.specs.Read.{module_of, expressions_of, BuildsOf};
 ghost use Rattle.derive_state.specs.Sizes.{going};
 
-use derive_state::{DerivedMut, ExprMap, Full, ShaderSource, Sizes, StackRows};
+use derive_imports::{Referent, referent_of};
+use derive_lookup::NamedDerived;
+use derive_state::{DerivedMut, ExprMap, Full, NamedSource, Sizes, StackRows};
 use function_builder::{ShaderFunction, merge};
-use function_outside::{Referent, import_record, referent_of};
-use function_runs::{Reach, copy_mapped_run, span_undefined};
+use function_outside::import_record;
+use function_runs::{Reach, next_word};
 use function_words::put_word;
 
-// Imports expression e of an initialiser, with its operands, where it is not mapped.
+// Imports expression e of an initialiser, with its operands, where it is not mapped. Of its loop see
+// `function_outside::import_outside`.
 fn import_initialiser(
     function: ShaderFunction,
     derived: &mut DerivedMut,
@@ -34,22 +35,19 @@ fn import_initialiser(
     ends: Sizes,
     e: usize,
 ) -> Result<Sizes, Full>
-    requires ground { Ground function.source.image.words.now function.source.image.tags.now function.source.image.n }
     requires e_lt_k { e < function.count }
     requires valid_arrays { Valid derived.old ends }
     requires under { Under function.count exprmap.old stacks.old function.base (going ends) }
-    ensures { Builds function.entry.source.image.words.now function.entry.count (initialiserE function.entry.source.offset (mod_of function.entry.source.image.words.now function.entry.source.image.n) still (exprs_of function.entry.source.image.words.now function.entry.source.image.tags.now function.entry.places.now function.entry.count) e) derived.old exprmap.old stacks.old function.entry.base ends result derived.new exprmap.new stacks.new }
+    ensures { BuildsOf function.entry (initialiserE function.entry.source.offset (module_of function.entry.source) still (expressions_of function.entry) e) derived.old exprmap.old stacks.old ends result derived.new exprmap.new stacks.new }
 {
     if exprmap[e] != 0 {
         return Ok(ends);
     }
     let piece = function.expression(e);
+    let image = function.source.image;
     let mut got = ends;
     for j in piece.at..piece.end {
-        match referent_of(
-            function.source.image.tags[j],
-            function.source.image.words[j],
-        ) {
+        match referent_of(image.tags[j], image.words[j]) {
             None => {}
             Some(Referent::Record(r)) => got = import_record(function.source, derived, got, r)?,
             Some(Referent::Own(x)) => {
@@ -57,11 +55,20 @@ fn import_initialiser(
             }
         }
     }
-    merge(function, &derived.view(got), exprmap, stacks, e)
+    merge(
+        function,
+        NamedDerived {
+            view: &derived.view(got),
+        },
+        exprmap,
+        stacks,
+        e,
+    )
 }
 
 // Imports what word i of declarations refers to: an expression of an initialiser, or a record of a table. As `import_body_word` of function_passes, but for what
-// imports the expression: one for both would take that as a closure that writes all that they write, and be longer than the two.
+// imports the expression: one for both would take that as a closure that writes all that they write, and be longer than the two. That word i is one of an image and refers
+// to what there is, is a clause, here, in `import_body_word` and in `put_word`, for three counts: a type of the number would have the image, the count and i in it.
 fn import_declaration_word(
     function: ShaderFunction,
     derived: &mut DerivedMut,
@@ -70,16 +77,13 @@ fn import_declaration_word(
     ends: Sizes,
     i: usize,
 ) -> Result<Sizes, Full>
-    requires ground { Ground function.source.image.words.now function.source.image.tags.now function.source.image.n }
     requires i_bound { (i < 16384) × (All (FitN function.source.image.words.now function.count) (ref_of (target (get_or function.source.image.tags.now i 0)) (get_or function.source.image.words.now i 0) [])) }
     requires valid_arrays { Valid derived.old ends }
     requires under { Under function.count exprmap.old stacks.old function.base (going ends) }
-    ensures { Builds function.entry.source.image.words.now function.entry.count (arriveE function.entry.source.offset (mod_of function.entry.source.image.words.now function.entry.source.image.n) still (unites function.entry.source.offset function.entry.source.image.words.now function.entry.source.image.tags.now function.entry.source.image.n function.entry.places.now function.entry.count) (unites function.entry.source.offset function.entry.source.image.words.now function.entry.source.image.tags.now function.entry.source.image.n function.entry.places.now function.entry.count) (target (get_or function.entry.source.image.tags.now i 0)) (get_or function.entry.source.image.words.now i 0)) derived.old exprmap.old stacks.old function.entry.base ends result derived.new exprmap.new stacks.new }
+    ensures { BuildsOf function.entry (arriveE function.entry.source.offset (module_of function.entry.source) still (unites_in function.entry) (unites_in function.entry) (target (get_or function.entry.source.image.tags.now i 0)) (get_or function.entry.source.image.words.now i 0)) derived.old exprmap.old stacks.old ends result derived.new exprmap.new stacks.new }
 {
-    match referent_of(
-        function.source.image.tags[i],
-        function.source.image.words[i],
-    ) {
+    let image = function.source.image;
+    match referent_of(image.tags[i], image.words[i]) {
         None => Ok(ends),
         Some(Referent::Record(r)) => import_record(function.source, derived, ends, r),
         Some(Referent::Own(e)) => {
@@ -98,30 +102,32 @@ pub fn declare(
     at: usize,
     end: usize,
 ) -> Result<Sizes, Full>
-    requires ground { Ground function.source.image.words.now function.source.image.tags.now function.source.image.n }
     requires declares { Declares function.source.image.words.now function.source.image.tags.now function.count at end }
     requires valid_arrays { Valid derived.old ends }
     requires under { Under function.count exprmap.old stacks.old function.base (going ends) }
-    ensures { Passes function.entry.source.image.words.now function.entry.count (after function.entry.source.offset (mod_of function.entry.source.image.words.now function.entry.source.image.n) still (unites function.entry.source.offset function.entry.source.image.words.now function.entry.source.image.tags.now function.entry.source.image.n function.entry.places.now function.entry.count) (unites function.entry.source.offset function.entry.source.image.words.now function.entry.source.image.tags.now function.entry.source.image.n function.entry.places.now function.entry.count) (between function.entry.source.image.tags.now function.entry.source.image.words.now (at) end)) (λ (m : Builder). map word (written function.entry.source.offset (mod_of function.entry.source.image.words.now function.entry.source.image.n) still (unites function.entry.source.offset function.entry.source.image.words.now function.entry.source.image.tags.now function.entry.source.image.n function.entry.places.now function.entry.count) (unites function.entry.source.offset function.entry.source.image.words.now function.entry.source.image.tags.now function.entry.source.image.n function.entry.places.now function.entry.count) (between function.entry.source.image.tags.now function.entry.source.image.words.now (at) end) false m)) derived.old exprmap.old stacks.old function.entry.base ends result derived.new exprmap.new stacks.new }
+    ensures { PassesOf function.entry (after function.entry.source.offset (module_of function.entry.source) still (unites_in function.entry) (unites_in function.entry) (between function.entry.source.image.tags.now function.entry.source.image.words.now (at) end)) (λ (m : Builder). map word (written function.entry.source.offset (module_of function.entry.source) still (unites_in function.entry) (unites_in function.entry) (between function.entry.source.image.tags.now function.entry.source.image.words.now (at) end) false m)) derived.old exprmap.old stacks.old ends result derived.new exprmap.new stacks.new }
 {
+    let cells = function.source.image.cells();
     let mut r = Reach {
         at,
         sizes: ends,
         undefined: false,
     };
-    // no counted loop: a turn passes a run of words, as long as copy_mapped_run finds it, and one word more
-    while r.at < end {
-        r = copy_mapped_run(function.source, derived.maps, exprmap, stacks, r, end);
-        if r.at == end {
-            return Ok(r.sizes);
-        }
-        let j = r.at;
-        r.at += 1;
-        r.undefined = span_undefined(function.source.image, j, end, r.undefined);
+    while let Some(j) = next_word(
+        cells,
+        function.source.offset,
+        derived.maps,
+        exprmap,
+        stacks,
+        &mut r,
+        end,
+    ) {
         let e = import_declaration_word(function, derived, exprmap, stacks, r.sizes, j)?;
         r.sizes = put_word(
             function.source,
-            &derived.view(e),
+            NamedDerived {
+                view: &derived.view(e),
+            },
             exprmap,
             stacks,
             j,

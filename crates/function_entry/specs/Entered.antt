@@ -4,7 +4,7 @@ use Rattle.model.specs.Tree.{Entry}
 use Rattle.model.specs.Imports.{Derived}
 use Rattle.model.specs.Bodies.{enter_all, entries_made}
 use Rattle.derive_limits.specs.Full.{Full}
-use Rattle.function_nesting.specs.Nested.{entered_s, entry_cells_s, ReadyF}
+use Rattle.function_nesting.specs.Nested.{entered_s, entry_cells_s, ReadyF, Ready, follow_s}
 use Rattle.function_nesting.specs.Entries.{EntryMade}
 use Rattle.derive_state.specs.Source.{mod_of}
 use Rattle.derive_state.specs.Held.{table_of, entries_of, st_of, size_r, Over, ValidArrays, Same, SameArrays}
@@ -15,6 +15,9 @@ use Rattle.function_words.specs.Runs.{Deep}
 use Rattle.derive_state.specs.declared.Full.{Full as Full'}
 use Rattle.derive_state.specs.declared.Sizes.{Sizes as Sizes'}
 use Rattle.derive_state.specs.declared.DerivedMut.{DerivedMut}
+use Rattle.derive_state.specs.declared.NamedSource.{NamedSource}
+use Rattle.function_builder.specs.Read.{module_of}
+use Rattle.function_parts.specs.Part.{entry}
 
 -- an entry point whose function and callees can be imported
 pub record NestedE (words : List ℕ) (n : ℕ) (log logtags : List ℕ) (starts maps : List (List ℕ)) (e : Sizes) (o room : ℕ) (E : Entry) : Type 0 where
@@ -62,3 +65,16 @@ pub record Enters (words : List ℕ) (n o : ℕ) (ready : ℕ → Derived → Ty
 pub record EntersAll (words : List ℕ) (n o : ℕ) (special : List ℕ) (d : DerivedMut) (e : Sizes') (r : Result Sizes' Full') (d' : DerivedMut) (stacks : List (List ℕ)) : Type 0 where
   pub does : EnterAllEnsures words n o special d.log.now d.logtags.now d.starts.now d.maps.now d.buckets.now (going e) (told r) d'.log.now d'.logtags.now d'.starts.now d'.maps.now d'.buckets.now stacks
   pub same : SameArrays d d'
+
+-- ---- the same of a source and of a derived module with its sizes
+-- entry point j can be imported
+abbrev pub NestedEIn : NamedSource → DerivedMut → Sizes' → ℕ → ℕ → Type 0
+NestedEIn x d e room j = NestedE x.image.words.now x.image.n d.log.now d.logtags.now d.starts.now d.maps.now (going e) x.offset room (entry (module_of x) j)
+
+-- it is
+abbrev pub EntersIn : NamedSource → ℕ → ℕ → DerivedMut → List (List ℕ) → Sizes' → Result Sizes' Full' → DerivedMut → List (List ℕ) → Type 0
+EntersIn x room j d stacks₀ e r d' stacks = Enters x.image.words.now x.image.n x.offset (Ready x.offset (module_of x) room) (follow_s x.offset (module_of x) room) (entry (module_of x) j) d stacks₀ e r d' stacks
+
+-- all are
+abbrev pub EntersAllIn : NamedSource → List ℕ → DerivedMut → Sizes' → Result Sizes' Full' → DerivedMut → List (List ℕ) → Type 0
+EntersAllIn x special d e r d' stacks = EntersAll x.image.words.now x.image.n x.offset special d e r d' stacks

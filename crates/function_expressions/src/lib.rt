@@ -6,19 +6,18 @@ ghost use Rattle.std.specs.Prelude.{◌≡◌, true, false, ◌<◌, get_or};
 ghost use Rattle.model.specs.Operands.{standing_kind};
 ghost use Rattle.theory_bodies.specs.Shallow.{need as needE, glance as glanceE};
 ghost use Rattle.theory_passes.specs.Light.{still};
-ghost use Rattle.derive_state.specs.Source.{mod_of};
 ghost use Rattle.derive_state.specs.Held.{Valid};
-ghost use Rattle.function_references.specs.Fits.{Ground};
-ghost use Rattle.function_references.specs.Cuts.{exprs_of};
 ghost use Rattle.function_builder.specs.Stacks.{Under};
-ghost use Rattle.function_builder.specs.Makes.{Builds};
+ghost use Rattle.function_builder.specs.Read.{module_of, expressions_of, BuildsOf};
 ghost use Rattle.derive_state.specs.Sizes.{going};
 
 use base_kinds::stands;
 use base_words::Words;
-use derive_state::{DerivedMut, ExprMap, Full, Places, ShaderSource, Sizes, StackRows};
+use derive_imports::{Referent, referent_of};
+use derive_lookup::NamedDerived;
+use derive_state::{DerivedMut, ExprMap, Full, NamedSource, Places, Sizes, StackRows};
 use function_builder::{ShaderFunction, append};
-use function_outside::{Referent, import_outside, import_record, referent_of};
+use function_outside::{import_outside, import_record};
 
 // Imports expression e, unless it is mapped, with what it refers to outside the function.
 pub fn import_operand(
@@ -29,17 +28,24 @@ pub fn import_operand(
     ends: Sizes,
     e: usize,
 ) -> Result<Sizes, Full>
-    requires ground { Ground function.source.image.words.now function.source.image.tags.now function.source.image.n }
     requires e_lt_k { e < function.count }
     requires valid_arrays { Valid derived.old ends }
     requires under { Under function.count exprmap.old stacks.old function.base (going ends) }
-    ensures { Builds function.entry.source.image.words.now function.entry.count (needE function.entry.source.offset (mod_of function.entry.source.image.words.now function.entry.source.image.n) still (exprs_of function.entry.source.image.words.now function.entry.source.image.tags.now function.entry.places.now function.entry.count) e) derived.old exprmap.old stacks.old function.entry.base ends result derived.new exprmap.new stacks.new }
+    ensures { BuildsOf function.entry (needE function.entry.source.offset (module_of function.entry.source) still (expressions_of function.entry) e) derived.old exprmap.old stacks.old ends result derived.new exprmap.new stacks.new }
 {
     if exprmap[e] != 0 {
         return Ok(ends);
     }
     let got = import_outside(function.expression(e), derived, ends)?;
-    append(function, &derived.view(got), exprmap, stacks, e)
+    append(
+        function,
+        NamedDerived {
+            view: &derived.view(got),
+        },
+        exprmap,
+        stacks,
+        e,
+    )
 }
 
 // Whether expression e is not mapped and is standing. Most are mapped.
@@ -51,7 +57,7 @@ fn is_unmapped_standing(words: &Words, places: &Places, exprmap: &ExprMap, e: us
     exprmap[e] == 0 && stands(words[places[e] as usize])
 }
 
-// What an Emit's first pass imports of expression e, where it is not mapped.
+// What an Emit's first pass imports of expression e, where it is not mapped. Of its loop see `function_outside::import_outside`.
 pub fn import_standing(
     function: ShaderFunction,
     derived: &mut DerivedMut,
@@ -60,27 +66,24 @@ pub fn import_standing(
     ends: Sizes,
     e: usize,
 ) -> Result<Sizes, Full>
-    requires ground { Ground function.source.image.words.now function.source.image.tags.now function.source.image.n }
     requires e_lt_k { e < function.count }
     requires valid_arrays { Valid derived.old ends }
     requires under { Under function.count exprmap.old stacks.old function.base (going ends) }
-    ensures { Builds function.entry.source.image.words.now function.entry.count (glanceE function.entry.source.offset (mod_of function.entry.source.image.words.now function.entry.source.image.n) still (exprs_of function.entry.source.image.words.now function.entry.source.image.tags.now function.entry.places.now function.entry.count) e) derived.old exprmap.old stacks.old function.entry.base ends result derived.new exprmap.new stacks.new }
+    ensures { BuildsOf function.entry (glanceE function.entry.source.offset (module_of function.entry.source) still (expressions_of function.entry) e) derived.old exprmap.old stacks.old ends result derived.new exprmap.new stacks.new }
 {
     if exprmap[e] != 0 {
         return Ok(ends);
     }
     let piece = function.expression(e);
+    let image = function.source.image;
     let mut got = ends;
     for j in piece.at..piece.end {
-        match referent_of(
-            function.source.image.tags[j],
-            function.source.image.words[j],
-        ) {
+        match referent_of(image.tags[j], image.words[j]) {
             None => {}
             Some(Referent::Record(r)) => got = import_record(function.source, derived, got, r)?,
             Some(Referent::Own(n)) => {
                 let x = n as usize;
-                if is_unmapped_standing(function.source.image.words, function.places, exprmap, x) {
+                if is_unmapped_standing(image.words, function.places, exprmap, x) {
                     got = import_operand(function, derived, exprmap, stacks, got, x)?;
                 }
             }

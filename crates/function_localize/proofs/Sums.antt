@@ -1,6 +1,5 @@
 -- The arithmetic of `localize`, each fact with the few premises that it needs.
-use mathlib.Core.Path.{◌≡◌}
-use Prim.Native.Nat.{ℕ, ◌+◌, ◌*◌, ◌-◌, ◌≤◌, ◌<◌}
+use Prim.Native.Nat.{ℕ, ◌+◌, ◌*◌, ◌≤◌, ◌<◌}
 use native.Mathlib.Omega.{arith}
 use mir.Syntax.{w64}
 use mir.Val.{Fits}
@@ -14,10 +13,3 @@ place-next h = omega arith
 
 pub place_low : {i : ℕ} → i ≤ 1024 → i < 1025
 place_low h = omega arith
-
--- the words that are left get fewer
-pub fewer_word : (end i r count : ℕ) → i < end → r ≡ i + count → end - (r + 1) < end - i
-fewer_word end i r count t e = omega arith
-
-pub fewer_run : (end i r count : ℕ) → i < end → r ≡ i + count → end ≤ r → end - r < end - i
-fewer_run end i r count t e d = omega arith

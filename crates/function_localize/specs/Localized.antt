@@ -5,9 +5,11 @@ use Rattle.model.specs.Outcome.{word}
 use Rattle.model.specs.Tree.{Function, flat_all, flat_block}
 use Rattle.model.specs.Between.{between}
 use Rattle.model.specs.Scope.{in_scope}
+use Rattle.model.specs.Redirect.{function as function_at}
 use Rattle.model.specs.Imports.{Derived}
 use Rattle.theory_passes.specs.Pass.{front}
-use Rattle.function_nesting.specs.Nested.{walked_s, final_s, front_s, names_s, body_s, cells_s, ReadyFrom, ReadyF, Ready, follow_s, declared_s}
+use Rattle.function_nesting.specs.Nested.{walked_s, final_s, front_s, names_s, body_s, cells_s, ReadyFrom, ReadyF, Ready, append_s, follow_s, declared_s}
+use Rattle.derive_state.specs.Flats.{function_of}
 use Rattle.derive_state.specs.Source.{mod_of}
 use Rattle.derive_state.specs.Held.{row, table_of, st_of, size_r, Over, ValidArrays, Same, SameArrays}
 use Rattle.derive_state.specs.Marks.{Marks}
@@ -17,18 +19,23 @@ use Rattle.function_words.specs.Runs.{Along, Deep}
 use Rattle.derive_state.specs.declared.Full.{Full as Full'}
 use Rattle.derive_state.specs.declared.Sizes.{Sizes as Sizes'}
 use Rattle.derive_state.specs.declared.DerivedMut.{DerivedMut}
+use Rattle.derive_state.specs.declared.NamedSource.{NamedSource}
+use Rattle.function_builder.specs.Read.{module_of}
 
 -- ---- a function of a source whose functions are in scope, with room for `room` functions in progress; each callee can be imported
+-- F, after its declarations
 pub record Nested (words : List ℕ) (n : ℕ) (log logtags : List ℕ) (starts maps : List (List ℕ)) (e : Sizes) (o room : ℕ) (F : Function) : Type 0 where
   pub scopes : in_scope (mod_of words n) ≡ true
   pub special : List ℕ
   pub ready : ReadyFrom o (mod_of words n) (Ready o (mod_of words n) room) (follow_s o (mod_of words n) room) F (flat_block F.body) (declared_s o (mod_of words n) (follow_s o (mod_of words n) room) F (st_of words log logtags starts maps special e))
 
+-- the same where its declarations are still to come
 pub record NestedF (words : List ℕ) (n : ℕ) (log logtags : List ℕ) (starts maps : List (List ℕ)) (e : Sizes) (o room : ℕ) (F : Function) : Type 0 where
   pub scopes : in_scope (mod_of words n) ≡ true
   pub special : List ℕ
   pub ready : ReadyF o (mod_of words n) (Ready o (mod_of words n) room) (follow_s o (mod_of words n) room) F (st_of words log logtags starts maps special e)
 
+-- function f, if its name is not known
 pub record NestedAt (words : List ℕ) (n : ℕ) (log logtags : List ℕ) (starts maps : List (List ℕ)) (e : Sizes) (o room f : ℕ) : Type 0 where
   pub scopes : in_scope (mod_of words n) ≡ true
   pub special : List ℕ
@@ -82,3 +89,32 @@ pub record Localizes (words : List ℕ) (n o : ℕ) (ready : ℕ → Derived →
 pub record ImportsFunction (words : List ℕ) (ready : Derived → Type 0) (f : Derived → Derived) (d : DerivedMut) (stacks₀ : List (List ℕ)) (e : Sizes') (r : Result Sizes' Full') (d' : DerivedMut) (stacks : List (List ℕ)) : Type 0 where
   pub does : ImportFunctionEnsures words ready f d.log.now d.logtags.now d.starts.now d.maps.now d.buckets.now stacks₀ (going e) (told r) d'.log.now d'.logtags.now d'.starts.now d'.maps.now d'.buckets.now stacks
   pub same : SameArrays d d'
+
+-- ---- the same of a source and of a derived module with its sizes
+-- the function whose words lie from s to end
+abbrev pub function_in : NamedSource → ℕ → ℕ → Function
+function_in x s end = function_of (between x.image.tags.now x.image.words.now s end)
+
+-- F can be imported after its declarations
+abbrev pub NestedIn : NamedSource → DerivedMut → Sizes' → ℕ → Function → Type 0
+NestedIn x d e room F = Nested x.image.words.now x.image.n d.log.now d.logtags.now d.starts.now d.maps.now (going e) x.offset room F
+
+-- function f can be imported
+abbrev pub NestedFIn : NamedSource → DerivedMut → Sizes' → ℕ → ℕ → Type 0
+NestedFIn x d e room f = NestedF x.image.words.now x.image.n d.log.now d.logtags.now d.starts.now d.maps.now (going e) x.offset room (function_at (module_of x) f)
+
+-- it can, if its name is not known
+abbrev pub NestedAtIn : NamedSource → DerivedMut → Sizes' → ℕ → ℕ → Type 0
+NestedAtIn x d e room f = NestedAt x.image.words.now x.image.n d.log.now d.logtags.now d.starts.now d.maps.now (going e) x.offset room f
+
+-- F is whole on the stacks
+abbrev pub LocalizesIn : NamedSource → ℕ → Function → DerivedMut → List (List ℕ) → Sizes' → Result Sizes' Full' → DerivedMut → List (List ℕ) → Type 0
+LocalizesIn x room F d stacks₀ e r d' stacks = Localizes x.image.words.now x.image.n x.offset (Ready x.offset (module_of x) room) (follow_s x.offset (module_of x) room) F d stacks₀ e r d' stacks
+
+-- function f is imported
+abbrev pub AppendsIn : NamedSource → ℕ → ℕ → DerivedMut → List (List ℕ) → Sizes' → Result Sizes' Full' → DerivedMut → List (List ℕ) → Type 0
+AppendsIn x room f d stacks₀ e r d' stacks = ImportsFunction x.image.words.now (ReadyF x.offset (module_of x) (Ready x.offset (module_of x) room) (follow_s x.offset (module_of x) room) (function_at (module_of x) f)) (append_s x.offset (module_of x) (follow_s x.offset (module_of x) room) f) d stacks₀ e r d' stacks
+
+-- it is, if its name is not known
+abbrev pub FollowsIn : NamedSource → ℕ → ℕ → DerivedMut → List (List ℕ) → Sizes' → Result Sizes' Full' → DerivedMut → List (List ℕ) → Type 0
+FollowsIn x room f d stacks₀ e r d' stacks = ImportsFunction x.image.words.now (Ready x.offset (module_of x) room f) (follow_s x.offset (module_of x) room f) d stacks₀ e r d' stacks

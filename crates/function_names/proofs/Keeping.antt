@@ -1,5 +1,5 @@
 -- The named expressions that stay, as pairs on the stack: an expression's seat is 0, or the place of its pair plus 1. What the records that are left make of the pairs so far is what all of them make.
-use mathlib.Core.Path.{◌≡◌, refl, sym, ap, ◌∙◌}
+use mathlib.Core.Path.{◌≡◌, refl, sym, ap, subst, ◌∙◌}
 use mathlib.Core.Bool.{Bool, true, false, cond, false≢true}
 use mathlib.Core.Logic.{⊎_elim}
 use mathlib.Core.List.{List, [], ◌∷◌, ◌++◌, append_assoc}
@@ -18,7 +18,10 @@ use Rattle.model.specs.Names.{field}
 use Rattle.model.specs.Bodies.{put_name, name_if, keep_names}
 use Rattle.theory_image.specs.Betweens.{slice-none}
 use Rattle.derive_state.specs.Held.{row, put}
-use Rattle.derive_state.specs.Sizes.{Sizes}
+use Rattle.std.specs.Prelude.{Result, Err}
+use Rattle.derive_state.specs.declared.Full.{Full}
+use Rattle.derive_state.specs.declared.Sizes.{Sizes as Sizes'}
+use Rattle.derive_state.specs.Sizes.{Sizes, told}
 use Rattle.derive_state.proofs.State.{same_or, row_other, put-row}
 use Rattle.function_builder.specs.Stacks.{Stacks}
 use Rattle.function_builder.specs.Makes.{Pushed}
@@ -154,6 +157,10 @@ module _ {w : ℕ} {stacks : List (List ℕ)} {e r : Sizes} {stacks' : List (Lis
         high' = rw (P.ends pushed) (omega arith);
       }
 
+-- a refusal, as `?` hands it on
+pub refused : {ps : List (ℕ × ℕ)} {stacks₀ : List (List ℕ)} {e : Sizes} {stacks : List (List ℕ)} (r : Result Sizes' Full) (y : Full) → r ≡ Err y → KeepNamesEnsures ps stacks₀ e (told (Err y)) stacks → KeepNamesEnsures ps stacks₀ e (told r) stacks
+refused {ps} {stacks₀} {e} {stacks} r y q K = subst (λ (r : Result Sizes' Full). KeepNamesEnsures ps stacks₀ e (told r) stacks) (sym q) K
+
 -- ---- the loop
 pub record Keeping (words exprmap : List ℕ) (at : ℕ) (stacks₀ : List (List ℕ)) (e₀ : Sizes) (stacks : List (List ℕ)) (seats : List ℕ) (e : Sizes) (i : ℕ) : Type 0 where
   pub ps : List (ℕ × ℕ)
@@ -275,20 +282,21 @@ module _ (words exprmap : List ℕ) (at : ℕ) (stacks₀ : List (List ℕ)) (e�
           seat_none : seat_of inv.ps (v - 1) ≡ 0
           seat_none = seat ∙ new
 
-          pub keep_full : 16382 < e.bodytop → (r : Sizes) → r.full ≡ true → KeepNamesEnsures whole stacks₀ e₀ r stacks
-          keep_full over r q = record {
+          too_many : 16382 < e.bodytop → (r : Sizes) → r.full ≡ true → (stacks' : List (List ℕ)) → ((t : ℕ) → t < 3 → row stacks' t ≡ row stacks₀ t) → KeepNamesEnsures whole stacks₀ e₀ r stacks'
+          too_many over r q stacks' rows = record {
             over = λ z. let t = top in let a = keep-more (named_records words (at + 1 + 2 * (i + 1)) (get_or words at 0 - (i + 1))) exprmap (inv.ps ++ ((v - 1, w) ∷ [])) in let b = length-append inv.ps ((v - 1, w) ∷ []) in let d = rw (named (inv.ps ++ ((v - 1, w) ∷ [])) (sym (put-new inv.ps (v - 1) w seat_none))) at a in omega arith;
             is = λ z. absurd (false≢true (sym z ∙ q));
             ends = λ z. absurd (false≢true (sym z ∙ q));
             below = λ z. absurd (false≢true (sym z ∙ q));
-            expressions = inv.expressions;
+            expressions = rows;
             stacks_are = λ z. absurd (false≢true (sym z ∙ q));
           }
 
-          module _ (room : e.bodytop ≤ 16382) (r₁ : Sizes) (stacks₁ : List (List ℕ)) (P₁ : Pushed (v - 1) stacks e r₁ stacks₁) where
-            less₁ : e.bodytop < 16384
-            less₁ = omega arith
+          -- no room for the first of its words
+          pub keep_full : (r₁ : Sizes) (stacks₁ : List (List ℕ)) → Pushed (v - 1) stacks e r₁ stacks₁ → r₁.full ≡ true → KeepNamesEnsures whole stacks₀ e₀ r₁ stacks₁
+          keep_full r₁ stacks₁ P₁ q = let z = P₁.over q in too_many (omega arith) r₁ q stacks₁ (λ t h. ap (λ (s : List (List ℕ)). row s t) (P₁.stays q) ∙ inv.expressions t h)
 
+          module _ (less₁ : e.bodytop < 16384) (r₁ : Sizes) (stacks₁ : List (List ℕ)) (P₁ : Pushed (v - 1) stacks e r₁ stacks₁) where
             pub keep_stacks : Stacks stacks₁ r₁
             keep_stacks = pushed_stacks inv.stacks_are P₁ less₁
 
@@ -298,10 +306,11 @@ module _ (words exprmap : List ℕ) (at : ℕ) (stacks₀ : List (List ℕ)) (e�
             top₁ : r₁.bodytop ≡ suc e.bodytop
             top₁ = let a = ap (λ (x : Sizes). x.bodytop) ends₁ in let t = top in omega arith
 
-            module _ (r₂ : Sizes) (stacks₂ : List (List ℕ)) (P₂ : Pushed w stacks₁ r₁ r₂ stacks₂) where
-              less₂ : r₁.bodytop < 16384
-              less₂ = let t = top₁ in omega arith
+            -- none for the second
+            pub keep_full_then : (r₂ : Sizes) (stacks₂ : List (List ℕ)) → Pushed w stacks₁ r₁ r₂ stacks₂ → r₂.full ≡ true → KeepNamesEnsures whole stacks₀ e₀ r₂ stacks₂
+            keep_full_then r₂ stacks₂ P₂ q = let z = P₂.over q in let t = top₁ in too_many (omega arith) r₂ q stacks₂ (λ t h. ap (λ (s : List (List ℕ)). row s t) (P₂.stays q) ∙ pushed_other inv.stacks_are P₁ less₁ t h ∙ inv.expressions t h)
 
+            module _ (less₂ : r₁.bodytop < 16384) (r₂ : Sizes) (stacks₂ : List (List ℕ)) (P₂ : Pushed w stacks₁ r₁ r₂ stacks₂) where
               ps₂ : List (ℕ × ℕ)
               ps₂ = inv.ps ++ ((v - 1, w) ∷ [])
 
@@ -325,7 +334,7 @@ module _ (words exprmap : List ℕ) (at : ℕ) (stacks₀ : List (List ℕ)) (e�
                 within = omega arith;
                 ends = ends₂;
                 stacks_are = pushed_stacks keep_stacks P₂ less₂;
-                is = let a = long in let b = keep-top in rw (row₂, top₂, words_pushed R e₀.bodytop e.bodytop (v - 1) w b (omega arith), inv.is) (sym (words_new inv.ps (v - 1) w));
+                is = let a = long in let b = keep-top in let y = less₂ in let x = top₁ in rw (row₂, top₂, words_pushed R e₀.bodytop e.bodytop (v - 1) w b (omega arith), inv.is) (sym (words_new inv.ps (v - 1) w));
                 below = let b = keep-top in rw row₂ (take-set-le e₀.bodytop (set R e.bodytop (v - 1)) (suc e.bodytop) w (omega arith) ∙ take-set-le e₀.bodytop R e.bodytop (v - 1) b ∙ inv.below);
                 expressions = λ t ht. pushed_other keep_stacks P₂ less₂ t ht ∙ pushed_other inv.stacks_are P₁ less₁ t ht ∙ inv.expressions t ht;
                 seats_long = length-set seats (v - 1) s ∙ inv.seats_long;

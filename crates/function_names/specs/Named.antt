@@ -17,10 +17,12 @@ use Rattle.derive_state.specs.declared.Sizes.{Sizes as Sizes'}
 use Rattle.derive_state.specs.declared.DerivedMut.{DerivedMut}
 
 -- ---- named expressions, as pairs on the stack of words
+-- pairs as words
 unfoldable pub pair_words : List (ℕ × ℕ) → List ℕ
 pair_words [] = []
 pair_words (p ∷ ps) = p.0 ∷ p.1 ∷ pair_words ps
 
+-- words as pairs; a word that is left over is none
 unfoldable pub pairs_in : List ℕ → List (ℕ × ℕ)
 pairs_in [] = []
 pairs_in (k ∷ []) = []

@@ -5,25 +5,25 @@ ghost use Rattle.std.specs.Prelude.{◌≡◌, [], ℕ, suc, ◌+◌, ◌-◌, �
 ghost use Rattle.model.specs.Module.{count_at};
 ghost use Rattle.model.specs.Bodies.{keep_names};
 ghost use Rattle.derive_state.specs.Held.{row, Valid};
-ghost use Rattle.function_references.specs.Fits.{Ground};
 ghost use Rattle.function_builder.specs.Stacks.{Stacks};
 ghost use Rattle.function_names.specs.Named.{named_records, KeepNamesEnsures, ImportsNames};
 ghost use Rattle.derive_state.specs.Sizes.{going, told};
 
 use base_views::NAMES;
 use base_words::Words;
-use derive_imports::{Reference, import};
-use derive_state::{DerivedMut, Full, ShaderSource, Sizes, StackRows};
+use derive_imports::import;
+use derive_state::{DerivedMut, Full, NamedSource, Places, Reference, Sizes, StackRows};
 use function_builder::{BODY, push};
 
 // The named expressions that stay, of those whose count is word `at`, each with its name's word in the source: the last name counts, in the first's place. `exprmap` has
 // the function's expressions and no more.
 // `seats` is scratch memory that the caller provides: nothing is required of it before or promised after. A seat is the number of a name that stays plus 1, and 0 for
 // none: the memory is that of the caller's places, which are numbers, and clearing makes them 0.
+// Pairs by their numbers, as `by_index` has them: in chunks, `words[at + 1..at + 1 + 2 * count].chunks_exact(2)` has the sum of `q` in its end, and each read is as long.
 pub fn keep_names(
     words: &Words,
     exprmap: &[u16],
-    seats: &mut [u16; 1025],
+    seats: &mut Places,
     stacks: &mut StackRows,
     ends: Sizes,
     at: usize,
@@ -44,10 +44,6 @@ pub fn keep_names(
         if v != 0 {
             let j = seats[v - 1] as usize;
             if j == 0 {
-                // Tested before the two pushes, since a push that is refused promises nothing of the stacks, and this does.
-                if e.bodytop > 16382 {
-                    return Err(Full);
-                }
                 seats[v - 1] = ((e.bodytop as usize - b) / 2 + 1) as u16;
                 e = push(stacks, e, (v - 1) as u32)?;
                 e = push(stacks, e, words[q + 1])?;
@@ -61,13 +57,12 @@ pub fn keep_names(
 
 // Imports the names of the pairs that are on the stack from b on.
 pub fn import_names(
-    source: ShaderSource,
+    source: NamedSource,
     derived: &mut DerivedMut,
     stacks: &mut StackRows,
     ends: Sizes,
     b: usize,
 ) -> Result<Sizes, Full>
-    requires ground { Ground source.image.words.now source.image.tags.now source.image.n }
     requires b_le_bodytop { b ≤ ends.bodytop }
     requires by_index { (i : ℕ) → b + 2 * i < ends.bodytop → (suc (b + 2 * i) < ends.bodytop) × (get_or (row stacks.old 3) (suc (b + 2 * i)) 0 ≤ count_at 0 source.image.words.now) }
     requires stacks { Stacks stacks.old (going ends) }
@@ -83,7 +78,7 @@ pub fn import_names(
                 table: NAMES,
                 number: w - 1,
             };
-            e = import(source, derived, e, r)?;
+            e = import(source.source(), derived, e, r)?;
             stacks[BODY][j] = derived.maps[NAMES][r.number as usize];
         }
     }

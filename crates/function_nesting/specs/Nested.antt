@@ -57,9 +57,11 @@ module _ (o : ℕ) (M : Module) where
     cells_s s = front_s s ++ flat_list EXPRESSIONS (walked_s s).made ++ ((NAMED, length (kept_s s)) ∷ names_s s) ++ body_s s
 
   -- ---- import_function, and a call to a name that is not yet known
+  -- function n is appended
   unfoldable pub append_s : (ℕ → Derived → Derived) → ℕ → Derived → Derived
   append_s follow n s = appended (function_of (cells_s follow (function_at M n) s)) (final_s follow (function_at M n) s).out
 
+  -- it is, if its name is not known and there is room for one more function in progress
   unfoldable pub follow_s : ℕ → ℕ → Derived → Derived
   follow_s zero n s = s
   follow_s (suc k) n s = unless_mapped (known M s n) (λ z. append_s (follow_s k) n s) s
@@ -85,9 +87,11 @@ module _ (o : ℕ) (M : Module) where
     ReadyFrom [] m = Unit {0}
     ReadyFrom (c ∷ cs) m = (class c ≡ CALLEE → ready (word c) m.out) × ReadyFrom cs (passed o M follow (need o M still F.exprs) (glance o M still F.exprs) c cs m)
 
+    -- the record of F, and those of the functions that it calls
     unfoldable pub ReadyF : Derived → Type 0
     ReadyF s = Reads (count (final_s follow F s).out.recs names) (cells_s follow F s) × ReadyFrom (flat_block F.body) (declared_s follow F s)
 
+  -- those of function n, if its name is not known
   unfoldable pub Ready : ℕ → ℕ → Derived → Type 0
   Ready zero n s = Unit {0}
   Ready (suc k) n s = known M s n ≡ 0 → ReadyF (Ready k) (follow_s k) (function_at M n) s

@@ -23,7 +23,7 @@ use Rattle.theory_passes.specs.Light.{still}
 use Rattle.derive_state.specs.Refers.{code_p, target_of}
 use Rattle.derive_state.specs.Source.{if_some, refers_to, less, number_of}
 use Rattle.derive_state.proofs.State.{tab_code, code_low}
-use Rattle.derive_imports.specs.declared.Reference.{Reference}
+use Rattle.derive_state.specs.declared.Reference.{Reference}
 use Rattle.derive_imports.specs.declared.Referent.{Referent}
 use Rattle.derive_imports.specs.declared.Referent.TheVariants as code
 use Rattle.derive_imports.specs.Referents.{at_place, referent_of}

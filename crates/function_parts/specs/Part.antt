@@ -68,9 +68,11 @@ module _ {words tags : List ℕ} {n : ℕ} (src : Source words tags n) (six : in
   entry-part j h = part_of_entry j _ (entry_there src j h)
 
 -- ---- as the code reads the words: the count of expressions is at ea, the places where they start are found in the tags, and the last is followed by the count of named expressions
+-- the places
 abbrev pub places_of : List ℕ → ℕ → ℕ → List ℕ
 places_of tags ea end = sets (replicate 1025 0) 0 (finds (ea + 1) (slice (ea + 1) end tags))
 
+-- what is read so
 pub record Indexed (words tags : List ℕ) (s end ea : ℕ) (places : List ℕ) (k named body : ℕ) : Type 0 where
   pub ea_is : ea ≡ expressions_at s words
   pub places_are : places ≡ places_of tags ea end

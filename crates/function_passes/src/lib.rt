@@ -1,6 +1,6 @@
 // Passes over the words of a function's body: each word is written at once on the stack of words, by the maps as they are at its turn. What a word needs of
 // those after it is read ahead: of a span's start whether the span is undefined, of an Emit's start its end, of an atomic statement what it compares. Words that
-// import nothing are written in runs.
+// import nothing do not come here: function_runs writes them.
 #![tactic(auto)]
 
 ghost use Rattle.std.specs.Prelude.{◌≡◌, List, [], ◌∷◌, ℕ, suc, ◌≤◌, ◌<◌, ◌+◌, length, get_or};
@@ -11,25 +11,27 @@ ghost use Rattle.model.specs.Bodies.{Builder, compares_of, each_e};
 ghost use Rattle.theory_records.specs.RecordLaws.{All};
 ghost use Rattle.theory_passes.specs.Pass.{arrive as arriveE, first, both, early, passed, word_of};
 ghost use Rattle.theory_passes.specs.Light.{still};
-ghost use Rattle.derive_state.specs.Source.{mod_of};
 ghost use Rattle.derive_state.specs.Held.{ValidArrays, Valid};
-ghost use Rattle.function_references.specs.Fits.{FitN, Ground, Legible};
+ghost use Rattle.function_references.specs.Fits.{FitN, Legible};
 ghost use Rattle.function_builder.specs.Stacks.{Under};
-ghost use Rattle.function_builder.specs.Makes.{Lays, Builds};
-ghost use Rattle.function_words.specs.Runs.{needs, glances, Bodied, Drawn, Passes};
+ghost use Rattle.function_words.specs.Runs.{Bodied, Drawn, needs_in, glances_in, PassesOf};
 ghost use Rattle.function_passes.specs.Compared.{compared};
+ghost use Rattle.function_builder.specs.Read.{module_of, LaysOf, BuildsOf};
 ghost use Rattle.derive_state.specs.Sizes.{going, told};
 
 use base_classes::{ATOMIC, FROM, OPT_EXPR, STMT_KIND, TO};
 use base_views::Image;
-use derive_state::{Derived, DerivedMut, ExprMap, Full, ShaderSource, Sizes, StackRows};
+use derive_imports::{Referent, referent_of};
+use derive_lookup::NamedDerived;
+use derive_state::{Derived, DerivedMut, ExprMap, Full, NamedSource, Sizes, StackRows};
 use function_builder::{ShaderFunction, append, push};
 use function_expressions::{import_operand, import_standing};
-use function_outside::{Referent, import_record, referent_of};
+use function_outside::import_record;
 use function_runs::atomic;
 use function_words::put_word;
 
-// Imports what word i of a body refers to: an expression of the function, or a record of a table.
+// Imports what word i of a body refers to: an expression of the function, or a record of a table. Why what is known of word i is a clause, is beside
+// `import_declaration_word` of function_declarations.
 fn import_body_word(
     function: ShaderFunction,
     derived: &mut DerivedMut,
@@ -38,16 +40,13 @@ fn import_body_word(
     ends: Sizes,
     i: usize,
 ) -> Result<Sizes, Full>
-    requires ground { Ground function.source.image.words.now function.source.image.tags.now function.source.image.n }
     requires i_bound { (i < 16384) × (All (FitN function.source.image.words.now function.count) (ref_of (target (get_or function.source.image.tags.now i 0)) (get_or function.source.image.words.now i 0) [])) }
     requires valid_arrays { Valid derived.old ends }
     requires under { Under function.count exprmap.old stacks.old function.base (going ends) }
-    ensures { Builds function.entry.source.image.words.now function.entry.count (arriveE function.entry.source.offset (mod_of function.entry.source.image.words.now function.entry.source.image.n) still (needs function.entry.source.offset function.entry.source.image.words.now function.entry.source.image.tags.now function.entry.source.image.n function.entry.places.now function.entry.count) (glances function.entry.source.offset function.entry.source.image.words.now function.entry.source.image.tags.now function.entry.source.image.n function.entry.places.now function.entry.count) (target (get_or function.entry.source.image.tags.now i 0)) (get_or function.entry.source.image.words.now i 0)) derived.old exprmap.old stacks.old function.entry.base ends result derived.new exprmap.new stacks.new }
+    ensures { BuildsOf function.entry (arriveE function.entry.source.offset (module_of function.entry.source) still (needs_in function.entry) (glances_in function.entry) (target (get_or function.entry.source.image.tags.now i 0)) (get_or function.entry.source.image.words.now i 0)) derived.old exprmap.old stacks.old ends result derived.new exprmap.new stacks.new }
 {
-    match referent_of(
-        function.source.image.tags[i],
-        function.source.image.words[i],
-    ) {
+    let image = function.source.image;
+    match referent_of(image.tags[i], image.words[i]) {
         None => Ok(ends),
         Some(Referent::Record(r)) => import_record(function.source, derived, ends, r),
         Some(Referent::Own(e)) => {
@@ -56,7 +55,8 @@ fn import_body_word(
     }
 }
 
-// An Emit's first pass over the expressions from a to b.
+// An Emit's first pass over the expressions from a to b. Two numbers and no Range, which is not Copy: `emit` would clone it for one of its passes, and the clause
+// would bound its end as it bounds b.
 fn first_pass(
     function: ShaderFunction,
     derived: &mut DerivedMut,
@@ -66,11 +66,10 @@ fn first_pass(
     a: usize,
     b: usize,
 ) -> Result<Sizes, Full>
-    requires ground { Ground function.source.image.words.now function.source.image.tags.now function.source.image.n }
     requires b_le_k { b ≤ function.count }
     requires valid_arrays { Valid derived.old ends }
     requires under { Under function.count exprmap.old stacks.old function.base (going ends) }
-    ensures { Builds function.entry.source.image.words.now function.entry.count (each_e (in_range (record { from = a; to = b })) (glances function.entry.source.offset function.entry.source.image.words.now function.entry.source.image.tags.now function.entry.source.image.n function.entry.places.now function.entry.count)) derived.old exprmap.old stacks.old function.entry.base ends result derived.new exprmap.new stacks.new }
+    ensures { BuildsOf function.entry (each_e (in_range (record { from = a; to = b })) (glances_in function.entry)) derived.old exprmap.old stacks.old ends result derived.new exprmap.new stacks.new }
 {
     let mut e = ends;
     for y in a..b {
@@ -88,21 +87,22 @@ fn second_pass(
     a: usize,
     b: usize,
 ) -> Result<Sizes, Full>
-    requires ground { Ground function.source.image.words.now function.source.image.tags.now function.source.image.n }
     requires b_le_k { b ≤ function.count }
     requires by_index { (buckets : List ℕ) × ValidArrays derived.now.log.now derived.now.logtags.now derived.now.starts.now derived.now.maps.now buckets (going derived.now.sizes) }
     requires under { Under function.count exprmap.old stacks.old function.base (going derived.now.sizes) }
     requires drawn { Drawn function.source.image.words.now function.source.image.tags.now function.places.now function.count derived.now.maps.now exprmap.old a b }
-    ensures { Lays function.entry.source.image.words.now function.entry.count (each_e (in_range (record { from = a; to = b })) (needs function.entry.source.offset function.entry.source.image.words.now function.entry.source.image.tags.now function.entry.source.image.n function.entry.places.now function.entry.count)) derived.now.log.now derived.now.logtags.now derived.now.starts.now derived.now.maps.now exprmap.old stacks.old function.entry.base (going derived.now.sizes) (told result) exprmap.new stacks.new }
+    ensures { LaysOf function.entry (each_e (in_range (record { from = a; to = b })) (needs_in function.entry)) derived.now exprmap.old stacks.old result exprmap.new stacks.new }
 {
     let mut e = derived.sizes;
     for y in a..b {
         if exprmap[y] == 0 {
             e = append(
                 function,
-                &Derived {
-                    sizes: e,
-                    ..*derived
+                NamedDerived {
+                    view: &Derived {
+                        sizes: e,
+                        ..*derived
+                    },
                 },
                 exprmap,
                 stacks,
@@ -123,11 +123,10 @@ fn emit(
     a: usize,
     b: usize,
 ) -> Result<Sizes, Full>
-    requires ground { Ground function.source.image.words.now function.source.image.tags.now function.source.image.n }
     requires b_le_k { b ≤ function.count }
     requires valid_arrays { Valid derived.old ends }
     requires under { Under function.count exprmap.old stacks.old function.base (going ends) }
-    ensures { Passes function.entry.source.image.words.now function.entry.count (both function.entry.source.offset (mod_of function.entry.source.image.words.now function.entry.source.image.n) still (needs function.entry.source.offset function.entry.source.image.words.now function.entry.source.image.tags.now function.entry.source.image.n function.entry.places.now function.entry.count) (glances function.entry.source.offset function.entry.source.image.words.now function.entry.source.image.tags.now function.entry.source.image.n function.entry.places.now function.entry.count) a b) (λ (m : Builder). length (first function.entry.source.offset (mod_of function.entry.source.image.words.now function.entry.source.image.n) still (needs function.entry.source.offset function.entry.source.image.words.now function.entry.source.image.tags.now function.entry.source.image.n function.entry.places.now function.entry.count) (glances function.entry.source.offset function.entry.source.image.words.now function.entry.source.image.tags.now function.entry.source.image.n function.entry.places.now function.entry.count) a b m).made ∷ []) derived.old exprmap.old stacks.old function.entry.base ends result derived.new exprmap.new stacks.new }
+    ensures { PassesOf function.entry (both function.entry.source.offset (module_of function.entry.source) still (needs_in function.entry) (glances_in function.entry) a b) (λ (m : Builder). length (first function.entry.source.offset (module_of function.entry.source) still (needs_in function.entry) (glances_in function.entry) a b m).made ∷ []) derived.old exprmap.old stacks.old ends result derived.new exprmap.new stacks.new }
 {
     let got = first_pass(function, derived, exprmap, stacks, ends, a, b)?;
     let from = got.made as u32;
@@ -157,11 +156,10 @@ fn import_compare(
     i: usize,
     end: usize,
 ) -> Result<Sizes, Full>
-    requires ground { Ground function.source.image.words.now function.source.image.tags.now function.source.image.n }
     requires legible { (Legible function.source.image.words.now function.source.image.tags.now function.count i end) × (i < end) }
     requires valid_arrays { Valid derived.old ends }
     requires under { Under function.count exprmap.old stacks.old function.base (going ends) }
-    ensures { Builds function.entry.source.image.words.now function.entry.count (early function.entry.source.offset (mod_of function.entry.source.image.words.now function.entry.source.image.n) still (needs function.entry.source.offset function.entry.source.image.words.now function.entry.source.image.tags.now function.entry.source.image.n function.entry.places.now function.entry.count) (glances function.entry.source.offset function.entry.source.image.words.now function.entry.source.image.tags.now function.entry.source.image.n function.entry.places.now function.entry.count) (get_or function.entry.source.image.words.now i 0) (between function.entry.source.image.tags.now function.entry.source.image.words.now (suc i) end)) derived.old exprmap.old stacks.old function.entry.base ends result derived.new exprmap.new stacks.new }
+    ensures { BuildsOf function.entry (early function.entry.source.offset (module_of function.entry.source) still (needs_in function.entry) (glances_in function.entry) (get_or function.entry.source.image.words.now i 0) (between function.entry.source.image.tags.now function.entry.source.image.words.now (suc i) end)) derived.old exprmap.old stacks.old ends result derived.new exprmap.new stacks.new }
 {
     if !atomic(function.source.image.words[i]) {
         return Ok(ends);
@@ -183,11 +181,10 @@ pub fn import_word(
     end: usize,
     u: bool,
 ) -> Result<Sizes, Full>
-    requires ground { Ground function.source.image.words.now function.source.image.tags.now function.source.image.n }
     requires bodied { (Bodied function.source.image.words.now function.source.image.tags.now function.count i end) × (i < end) }
     requires valid_arrays { Valid derived.old ends }
     requires under { Under function.count exprmap.old stacks.old function.base (going ends) }
-    ensures { Passes function.entry.source.image.words.now function.entry.count (passed function.entry.source.offset (mod_of function.entry.source.image.words.now function.entry.source.image.n) still (needs function.entry.source.offset function.entry.source.image.words.now function.entry.source.image.tags.now function.entry.source.image.n function.entry.places.now function.entry.count) (glances function.entry.source.offset function.entry.source.image.words.now function.entry.source.image.tags.now function.entry.source.image.n function.entry.places.now function.entry.count) (get_or function.entry.source.image.tags.now i 0, get_or function.entry.source.image.words.now i 0) (between function.entry.source.image.tags.now function.entry.source.image.words.now (suc i) end)) (λ (m : Builder). word_of function.entry.source.offset (mod_of function.entry.source.image.words.now function.entry.source.image.n) still (needs function.entry.source.offset function.entry.source.image.words.now function.entry.source.image.tags.now function.entry.source.image.n function.entry.places.now function.entry.count) (glances function.entry.source.offset function.entry.source.image.words.now function.entry.source.image.tags.now function.entry.source.image.n function.entry.places.now function.entry.count) (get_or function.entry.source.image.tags.now i 0, get_or function.entry.source.image.words.now i 0) (between function.entry.source.image.tags.now function.entry.source.image.words.now (suc i) end) u m ∷ []) derived.old exprmap.old stacks.old function.entry.base ends result derived.new exprmap.new stacks.new }
+    ensures { PassesOf function.entry (passed function.entry.source.offset (module_of function.entry.source) still (needs_in function.entry) (glances_in function.entry) (get_or function.entry.source.image.tags.now i 0, get_or function.entry.source.image.words.now i 0) (between function.entry.source.image.tags.now function.entry.source.image.words.now (suc i) end)) (λ (m : Builder). word_of function.entry.source.offset (module_of function.entry.source) still (needs_in function.entry) (glances_in function.entry) (get_or function.entry.source.image.tags.now i 0, get_or function.entry.source.image.words.now i 0) (between function.entry.source.image.tags.now function.entry.source.image.words.now (suc i) end) u m ∷ []) derived.old exprmap.old stacks.old ends result derived.new exprmap.new stacks.new }
 {
     match function.source.image.tags[i] {
         FROM => {
@@ -202,7 +199,16 @@ pub fn import_word(
         }
         _ => {
             let got = import_body_word(function, derived, exprmap, stacks, ends, i)?;
-            put_word(function.source, &derived.view(got), exprmap, stacks, i, u)
+            put_word(
+                function.source,
+                NamedDerived {
+                    view: &derived.view(got),
+                },
+                exprmap,
+                stacks,
+                i,
+                u,
+            )
         }
     }
 }

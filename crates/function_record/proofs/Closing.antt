@@ -305,10 +305,10 @@ module _ (tags : List ℕ) (stacks : List (List ℕ)) (before e : Sizes) (s expr
       inside : e.loglen + suc (length (whole tags stacks before e s exprs body end head)) ≤ 16384
       inside = let h = room_is in omega arith
 
-      end_is : e.loglen + 1 + size_of before e s exprs body end head ≡ e.loglen + suc (length (whole tags stacks before e s exprs body end head))
+      end_is : e.loglen + (1 + size_of before e s exprs body end head) ≡ e.loglen + suc (length (whole tags stacks before e s exprs body end head))
       end_is = rw size_is (omega arith)
 
-      pub closes : AppendRecordEnsures (whole tags stacks before e s exprs body end head) limit t before e log₀ logtags₀ starts₀ (record { full = false; loglen = e.loglen + 1 + size_of before e s exprs body end head; counts = set e.counts t (get_or e.counts t 0 + 1); pairs = e.pairs; exprtop = before.exprtop; bodytop = before.bodytop; made = before.made }) l₈ k₈ (put starts₀ t (get_or e.counts t 0) e.loglen)
+      pub closes : AppendRecordEnsures (whole tags stacks before e s exprs body end head) limit t before e log₀ logtags₀ starts₀ (record { full = false; loglen = e.loglen + (1 + size_of before e s exprs body end head); counts = set e.counts t (get_or e.counts t 0 + 1); pairs = e.pairs; exprtop = before.exprtop; bodytop = before.bodytop; made = before.made }) l₈ k₈ (put starts₀ t (get_or e.counts t 0) e.loglen)
       closes = record {
         over = λ q. absurd (false≢true q);
         is = λ q. wrote-rec log₀ logtags₀ l₈ k₈ e.loglen (whole tags stacks before e s exprs body end head) hl hk inside (size_of before e s exprs body end head) (sym size_is) written;

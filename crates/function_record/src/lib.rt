@@ -1,5 +1,8 @@
 // The end of a function's import: the record that goes to the log, its parts in their order: declarations, expressions, named expressions, body. What writes words
-// and classes takes these two arrays and not the module, as append_record takes the three that it writes.
+// and classes takes these two arrays and not the module, as append_record takes the three that it writes. A struct of the two would be made in append_record alone, for
+// five calls, and each of the three functions that would take it would have to promise that both borrows are the same after it. It takes rows and places and no slices:
+// words and classes lie in two rows, or in a row and in the source, so that the five calls of append_record would cut nine slices, for the counts that it has once. That
+// the classes of expressions are bytes is a clause, since they stand in a row of words, in the array that C lends.
 #![tactic(auto)]
 
 ghost use Rattle.std.specs.Prelude.{◌≡◌, ◌++◌, ℕ, ◌+◌, ◌-◌, ◌*◌, ◌/◌, ◌≤◌, ◌<◌, length, get_or};
@@ -12,10 +15,10 @@ ghost use Rattle.derive_state.specs.Held.{row};
 ghost use Rattle.derive_state.specs.Sizes.{going, told};
 ghost use Rattle.function_builder.specs.Stacks.{Stacks};
 ghost use Rattle.function_names.specs.Named.{pairs_in};
-ghost use Rattle.function_record.specs.Closed.{named_classes, closing, AppendRecordEnsures};
+ghost use Rattle.function_record.specs.Closed.{named_classes, closed, carried_words, AppendRecordEnsures};
 
 use base_classes::{EXPRESSIONS, NAME, NAMED, NAMED_EXPR};
-use base_views::{Image, expressions_at};
+use base_views::{Cells, expressions_at};
 use base_words::Tags;
 use derive_state::{Full, Log, LogTags, Sizes, StackRows, Starts};
 use function_builder::{BODY, CLASSES, WORDS};
@@ -47,8 +50,8 @@ fn copy_classes(stacks: &StackRows, a: usize, count: usize, logtags: &mut LogTag
     }
 }
 
-// Writes the classes of `count` named expressions. By a loop, since fill writes one value, and as_chunks_mut, which would make pairs of the classes, does not say
-// what the slice ends as.
+// Writes the classes of `count` named expressions. By a loop over numbers, since fill writes one value, and of as_chunks_mut and of a loop over chunks_exact_mut, which
+// was tried, nothing says what the slice ends as: where that loop ends, its last value is known by no fact but its length.
 fn name_classes(logtags: &mut LogTags, p: usize, count: usize)
     requires { (p + 2 * count ≤ 16384) × (length logtags.old ≡ 16384) }
     ensures { logtags.new ≡ sets logtags.old p (named_classes count) }
@@ -124,14 +127,14 @@ pub struct FunctionPlace {
 
 impl FunctionPlace {
     // Where the function from `start` to `end` is.
-    pub fn of(image: Image, start: usize, end: usize) -> FunctionPlace
-        requires { Standing image.words.now image.tags.now start }
-        ensures { (result.start ≡ start) × (result.exprs ≡ expressions_at start image.entry.words.now) × Body result.body image.entry.words.now image.entry.tags.now start × (result.end ≡ end) }
+    pub fn of(cells: Cells, start: usize, end: usize) -> FunctionPlace
+        requires { Standing cells.words.now cells.tags.now start }
+        ensures { (result.start ≡ start) × (result.exprs ≡ expressions_at start cells.entry.words.now) × Body result.body cells.entry.words.now cells.entry.tags.now start × (result.end ≡ end) }
     {
         FunctionPlace {
             start,
-            exprs: expressions_at(image.words, start),
-            body: image.body_at(start),
+            exprs: expressions_at(cells.words, start),
+            body: cells.body_at(start),
             end,
         }
     }
@@ -139,7 +142,8 @@ impl FunctionPlace {
 
 // Appends the function on the stacks, above `before`, as a record of table t, which has at most `limit`, after the `head` words above its expressions. Its
 // declarations and its body have the classes that the source has in their place. It takes the three arrays that it writes, not the module: that maps and buckets
-// stay needs no clause so. `limit` is a parameter, and not read from the table: the promise holds for any.
+// stay needs no clause so. `limit` is a parameter, and not read from the table: the promise is of any limit, and with the table's in its place it would be less, which no
+// public function's may become.
 pub fn append_record(
     tags: &Tags,
     log: &mut Log,
@@ -155,11 +159,11 @@ pub fn append_record(
 ) -> Result<Sizes, Full>
     requires s_le_exprs { (place.start ≤ place.exprs) × (place.exprs ≤ place.body) × (place.body ≤ place.end) × (place.end ≤ 16384) × (length tags.now ≡ 16384) }
     requires t_bound { (t < 8) × (limit ≤ 512) × (get_or ends.counts t 0 ≤ limit) × (ends.exprtop + head ≤ 16384) × (ends.made ≤ 16384) }
-    requires stacks { (Stacks stacks.now (going ends)) × (before.exprtop ≤ ends.exprtop) × (before.bodytop + ((place.exprs - place.start) + (place.end - place.body)) ≤ ends.bodytop) }
-    requires body_len { length (pairs_in (slice (before.bodytop + ((place.exprs - place.start) + (place.end - place.body))) ends.bodytop (row stacks.now 3))) * 2 + (before.bodytop + ((place.exprs - place.start) + (place.end - place.body))) ≡ ends.bodytop }
+    requires stacks { (Stacks stacks.now (going ends)) × (before.exprtop ≤ ends.exprtop) × (before.bodytop + carried_words place ≤ ends.bodytop) }
+    requires body_len { length (pairs_in (slice (before.bodytop + carried_words place) ends.bodytop (row stacks.now 3))) * 2 + (before.bodytop + carried_words place) ≡ ends.bodytop }
     requires by_index { (i : ℕ) → before.exprtop ≤ i → i < ends.exprtop + head → get_or (row stacks.now 1) i 0 < 256 }
     requires loglen_bound { (23 + 2 * ends.pairs + ends.loglen ≤ 16384) × (length log.old ≡ 16384) × (length logtags.old ≡ 16384) × (length starts.old ≡ 8) × (length (row starts.old t) ≡ 512) × (length ends.counts ≡ 8) }
-    ensures { AppendRecordEnsures (between (row stacks.now 1) (row stacks.now 0) ends.exprtop (ends.exprtop + head) ++ closing tags.now stacks.now (going before) (going ends) place.start place.exprs place.body place.end) limit t (going before) (going ends) log.old logtags.old starts.old (told result) log.new logtags.new starts.new }
+    ensures { AppendRecordEnsures (between (row stacks.now 1) (row stacks.now 0) ends.exprtop (ends.exprtop + head) ++ closed tags.now stacks.now (going before) (going ends) place) limit t (going before) (going ends) log.old logtags.old starts.old (told result) log.new logtags.new starts.new }
 {
     let front = place.exprs - place.start;
     let tail = place.end - place.body;
@@ -196,14 +200,10 @@ pub fn append_record(
         q + 1 + names,
     );
     starts[t][count] = loglen as u32;
-    let mut c = ends.counts;
-    c[t] = (count + 1) as u16;
     Ok(Sizes {
-        loglen: (loglen + 1 + size) as u16,
-        counts: c,
         exprtop: before.exprtop,
         bodytop: before.bodytop,
         made: before.made,
-        ..ends
+        ..ends.with_record(t, 1 + size)
     })
 }

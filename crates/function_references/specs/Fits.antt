@@ -18,6 +18,7 @@ Fits words k (table t) j = (j < count_at (code_t t) words) × (j < 512)
 Fits words k own j = j < k
 Fits words k function j = j < count_at 6 words
 
+-- the same of what a word refers to
 abbrev pub FitN : List ℕ → ℕ → Node → Type 0
 FitN words k j = Fits words k j.place j.num
 
@@ -33,7 +34,7 @@ pub all_prop : (words : List ℕ) (k : ℕ) (js : List Node) → IsProp (All (Fi
 all_prop words k [] = Unit-prop
 all_prop words k (j ∷ js) = ×_prop (Fits-prop words k j.place j.num) (all_prop words k js)
 
--- a source that passed intake; a clause and no ghost field, as `Source` is, which it has as a field
+-- a source that passed intake: what the type `NamedSource` says (`ground` of function_references/proofs/Sources.antt)
 pub record Ground (words tags : List ℕ) (n : ℕ) : Type 0 where
   pub source : Source words tags n
   pub names : named (mod_of words n) ≡ true

@@ -2,7 +2,7 @@
 // such, so the sizes of the tables need not be passed along with each of them.
 #![tactic(auto)]
 
-ghost use Rattle.std.specs.Prelude.{◌≡◌, true, List, [], ℕ, suc, ◌≤◌, ◌<◌, ◌+◌, ◌-◌, length, get_or};
+ghost use Rattle.std.specs.Prelude.{MatchOption, ◌≡◌, true, List, [], ℕ, suc, ◌≤◌, ◌<◌, ◌+◌, ◌-◌, length, get_or};
 ghost use Rattle.model.specs.Table.{EXPR as EXPR'};
 ghost use Rattle.model.specs.Between.{between, Stretch};
 ghost use Rattle.model.specs.References.{target, ref_of, first_word, undefined_at};
@@ -12,28 +12,26 @@ ghost use Rattle.derive_state.specs.Refers.{target_of};
 ghost use Rattle.derive_state.specs.Source.{refers_to, number_of};
 ghost use Rattle.function_references.specs.Fits.{FitN, Legible};
 ghost use Rattle.function_builder.specs.Stacks.{went_by};
-ghost use Rattle.function_runs.specs.Copied.{Quiet, becomes, Ran};
+ghost use Rattle.function_runs.specs.Copied.{Quiet, becomes, Copied, Stopped};
 
 use base_classes::{FROM, SPAN, STMT_KIND, TO};
-use base_views::Image;
-use derive_state::{
-    ExprMap, Maps, ShaderSource, Sizes, StackRows, Target, moved, target_of, undefined_at,
-};
-use function_builder::{BODY, by_maps};
-use function_outside::{Referent, referent_of};
+use base_views::Cells;
+use derive_imports::{Referent, referent_of};
+use derive_state::{ExprMap, Maps, Sizes, StackRows, Target, moved, target_of, undefined_at};
+use function_builder::{BODY, ROW_LEN, by_maps};
 
 // Whether the span last met is undefined, once word i is read. The word after it is read only where a span starts, since this is called for every word.
-pub fn span_undefined(image: Image, i: usize, end: usize, u: bool) -> bool
-    requires { (Stretch image.words.now image.tags.now i end) × (i < end) }
-    ensures { result ≡ undefined_at (target (get_or image.entry.tags.now i 0)) (get_or image.entry.words.now i 0) (first_word (between image.entry.tags.now image.entry.words.now (suc i) end)) u }
+pub fn span_undefined(cells: Cells, i: usize, end: usize, u: bool) -> bool
+    requires { (Stretch cells.words.now cells.tags.now i end) × (i < end) }
+    ensures { result ≡ undefined_at (target (get_or cells.entry.tags.now i 0)) (get_or cells.entry.words.now i 0) (first_word (between cells.entry.tags.now cells.entry.words.now (suc i) end)) u }
 {
-    let s = image.tags[i];
+    let s = cells.tags[i];
     let next = if s == SPAN && i + 1 < end {
-        image.words[i + 1]
+        cells.words[i + 1]
     } else {
         0
     };
-    undefined_at(s, image.words[i], next, u)
+    undefined_at(s, cells.words[i], next, u)
 }
 
 // Whether a statement of the kind k is atomic.
@@ -80,47 +78,73 @@ pub struct Reach {
     pub undefined: bool,
 }
 
-// As far as word `at`, where each word from `from` on is one more on the stack of words.
-fn as_far_as(from: Reach, at: usize, undefined: bool) -> Reach
-    requires { (from.at ≤ at) × (from.sizes.bodytop + (at - from.at) ≤ 16384) }
-    ensures { result ≡ record { at = at; sizes = record { loglen = from.sizes.loglen; counts = from.sizes.counts; pairs = from.sizes.pairs; exprtop = from.sizes.exprtop; bodytop = from.sizes.bodytop + (at - from.at); made = from.sizes.made }; undefined = undefined } }
-{
-    let bodytop = from.sizes.bodytop as usize + (at - from.at);
-    Reach {
-        at,
-        sizes: Sizes {
-            bodytop: bodytop as u16,
-            ..from.sizes
-        },
-        undefined,
+impl Reach {
+    // As far as word `at`, where each word passed is one more on the stack of words.
+    fn pass(&mut self, at: usize, undefined: bool)
+        requires { (self.old.at ≤ at) × (self.old.sizes.bodytop + (at - self.old.at) ≤ 16384) }
+        ensures { self.new ≡ record { at = at; sizes = record { loglen = self.old.sizes.loglen; counts = self.old.sizes.counts; pairs = self.old.sizes.pairs; exprtop = self.old.sizes.exprtop; bodytop = self.old.sizes.bodytop + (at - self.old.at); made = self.old.sizes.made }; undefined = undefined } }
+    {
+        let bodytop = self.sizes.bodytop as usize + (at - self.at);
+        self.sizes.bodytop = bodytop as u16;
+        self.at = at;
+        self.undefined = undefined;
     }
 }
 
-// Copies the words from `from` on, up to `end`, to the stack of words, as long as they need no import and there is room.
+// Copies the words from where `reach` is on, up to `end`, to the stack of words, as long as they need no import and there is room. Not put into `next_word`, where
+// registers are fewer and each word took two instructions more. A `for` with a return, since each turn writes its word. Cells and offset are two parameters here and in
+// `next_word`: a source would ask more, that it passed the tests.
+#[inline(never)]
 pub fn copy_mapped_run(
-    source: ShaderSource,
+    cells: Cells,
+    offset: u32,
     maps: &Maps,
     exprmap: &ExprMap,
     stacks: &mut StackRows,
-    from: Reach,
+    reach: &mut Reach,
     end: usize,
-) -> Reach
-    requires legible { (Legible source.image.words.now source.image.tags.now 1024 from.at end) × (from.sizes.bodytop ≤ 16384) × (from.sizes.made ≤ 16384) }
-    ensures ran { Ran source.entry.image.words.now source.entry.image.tags.now maps.now exprmap.now (went_by maps.now exprmap.now) from.sizes.made source.entry.offset from.at end from.sizes.bodytop from.undefined stacks.old result.at result.undefined stacks.new }
-    ensures sizes { result.sizes ≡ record { loglen = from.sizes.loglen; counts = from.sizes.counts; pairs = from.sizes.pairs; exprtop = from.sizes.exprtop; bodytop = from.sizes.bodytop + (result.at - from.at); made = from.sizes.made } }
+)
+    requires legible { (Legible cells.words.now cells.tags.now 1024 reach.old.at end) × (reach.old.sizes.bodytop ≤ 16384) × (reach.old.sizes.made ≤ 16384) }
+    ensures { Copied cells.entry.words.now cells.entry.tags.now maps.now exprmap.now offset end reach.old stacks.old reach.new.at reach.new.undefined reach.new.sizes stacks.new }
 {
-    let bodytop = from.sizes.bodytop as usize;
-    let made = from.sizes.made as usize;
-    let mut u = from.undefined;
-    for i in from.at..end {
-        let p = bodytop + (i - from.at);
-        let s = source.image.tags[i];
-        let w = source.image.words[i];
-        if p == 16384 || !is_mapped_word(maps, exprmap, s, w) {
-            return as_far_as(from, i, u);
+    let at = reach.at;
+    let bodytop = reach.sizes.bodytop as usize;
+    let made = reach.sizes.made as usize;
+    let mut u = reach.undefined;
+    // a `for` with a return: `find` in its place would have a closure that writes the stacks and `u` at each turn
+    for i in at..end {
+        let p = bodytop + (i - at);
+        let s = cells.tags[i];
+        let w = cells.words[i];
+        if p == ROW_LEN || !is_mapped_word(maps, exprmap, s, w) {
+            reach.pass(i, u);
+            return;
         }
-        u = span_undefined(source.image, i, end, u);
-        stacks[BODY][p] = carry(maps, exprmap, made, source.offset, s, w, u);
+        u = span_undefined(cells, i, end, u);
+        stacks[BODY][p] = carry(maps, exprmap, made, offset, s, w, u);
     }
-    as_far_as(from, end, u)
+    reach.pass(end, u);
+}
+
+// Copies words as `copy_mapped_run` does, and passes the one at which that stops: its place, or None where all up to `end` are copied.
+pub fn next_word(
+    cells: Cells,
+    offset: u32,
+    maps: &Maps,
+    exprmap: &ExprMap,
+    stacks: &mut StackRows,
+    reach: &mut Reach,
+    end: usize,
+) -> Option<usize>
+    requires legible { (Legible cells.words.now cells.tags.now 1024 reach.old.at end) × (reach.old.sizes.bodytop ≤ 16384) × (reach.old.sizes.made ≤ 16384) }
+    ensures { MatchOption result (Copied cells.entry.words.now cells.entry.tags.now maps.now exprmap.now offset end reach.old stacks.old end reach.new.undefined reach.new.sizes stacks.new) (λ j. Stopped cells.entry.words.now cells.entry.tags.now maps.now exprmap.now offset end reach.old stacks.old j reach.new stacks.new) }
+{
+    copy_mapped_run(cells, offset, maps, exprmap, stacks, reach, end);
+    if reach.at == end {
+        return None;
+    }
+    let j = reach.at;
+    reach.at += 1;
+    reach.undefined = span_undefined(cells, j, end, reach.undefined);
+    Some(j)
 }

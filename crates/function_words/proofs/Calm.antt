@@ -165,7 +165,7 @@ module _ {words tags : List ℕ} {n : ℕ} (src : Source words tags n) {k : ℕ}
   W = went_of words n log logtags starts maps e exprmap
 
   pushed : (x : ℕ) → Pushed x stacks e (long e 1) (put stacks 3 e.bodytop x)
-  pushed x = record { over = λ z. absurd (false≢true z); is = λ z. refl; ends = λ z. refl; room = λ z. room }
+  pushed x = record { over = λ z. absurd (false≢true z); stays = λ z. absurd (false≢true z); is = λ z. refl; ends = λ z. refl; room = λ z. room }
 
   pub quiet_runs : Runs words k (passed o (mod_of words n) still p q (s, w) cs) (λ m. word_of o (mod_of words n) still p q (s, w) cs u m ∷ []) log logtags starts maps buckets exprmap stacks e₁ e (long e 1) log logtags starts maps buckets exprmap (put stacks 3 e.bodytop (becomes W e.made o s w u))
   quiet_runs = by (eqb s TO) refl

@@ -17,19 +17,35 @@ use Rattle.derive_state.specs.Sizes.{Sizes, going, told}
 use Rattle.function_references.specs.Fits.{Legible}
 use Rattle.function_references.specs.Cuts.{exprs_of}
 use Rattle.function_builder.specs.Stacks.{making_of, Under}
+use Rattle.function_builder.specs.declared.shader_function.ShaderFunction.{ShaderFunction}
 use Rattle.derive_state.specs.declared.Full.{Full as Full'}
 use Rattle.derive_state.specs.declared.Sizes.{Sizes as Sizes'}
 use Rattle.derive_state.specs.declared.DerivedMut.{DerivedMut}
 
--- ---- how the expressions of a function are imported: those of initialisers, at a word of the body, in an Emit's first pass
+-- ---- how the expressions of a function are imported
+-- those of initialisers
 abbrev pub unites : ℕ → List ℕ → List ℕ → ℕ → List ℕ → ℕ → ℕ → Builder → Builder
 unites o words tags n places k = import_initialiser o (mod_of words n) still (exprs_of words tags places k)
 
+-- at a word of the body
 abbrev pub needs : ℕ → List ℕ → List ℕ → ℕ → List ℕ → ℕ → ℕ → Builder → Builder
 needs o words tags n places k = need o (mod_of words n) still (exprs_of words tags places k)
 
+-- in an Emit's first pass
 abbrev pub glances : ℕ → List ℕ → List ℕ → ℕ → List ℕ → ℕ → ℕ → Builder → Builder
 glances o words tags n places k = glance o (mod_of words n) still (exprs_of words tags places k)
+
+-- the same of what is read of a function: those of initialisers
+abbrev pub unites_in : ShaderFunction → ℕ → Builder → Builder
+unites_in f = unites f.source.offset f.source.image.words.now f.source.image.tags.now f.source.image.n f.places.now f.count
+
+-- at a word of the body
+abbrev pub needs_in : ShaderFunction → ℕ → Builder → Builder
+needs_in f = needs f.source.offset f.source.image.words.now f.source.image.tags.now f.source.image.n f.places.now f.count
+
+-- in an Emit's first pass
+abbrev pub glances_in : ShaderFunction → ℕ → Builder → Builder
+glances_in f = glances f.source.offset f.source.image.words.now f.source.image.tags.now f.source.image.n f.places.now f.count
 
 -- ---- words of declarations: no Emit's range, no statement, no function among them
 pub record Declares (words tags : List ℕ) (k at end : ℕ) : Type 0 where
@@ -41,7 +57,8 @@ pub record Bodied (words tags : List ℕ) (k at end : ℕ) : Type 0 where
   pub legible : Legible words tags k at end
   pub ranges : (i : ℕ) → at ≤ i → i < end → get_or tags i 0 ≡ FROM → (suc i < end) × (get_or words (suc i) 0 ≤ k)
 
--- ---- what a first pass leaves of the expressions from a to b: where one is not mapped, the records of tables that it refers to are
+-- ---- what a first pass leaves of expressions
+-- a record of a table is mapped
 unfoldable pub Met : Maps → Place → ℕ → Type 0
 Met ms (table t) j = map_at ms t j ≡ 0 → ⊥
 Met ms own j = Unit {0}
@@ -50,6 +67,7 @@ Met ms function j = Unit {0}
 abbrev pub MetN : Maps → Node → Type 0
 MetN ms j = Met ms j.place j.num
 
+-- where one of the expressions from a to b is not mapped, the records of tables that it refers to are
 pub record Drawn (words tags places : List ℕ) (k : ℕ) (maps : List (List ℕ)) (exprmap : List ℕ) (a b : ℕ) : Type 0 where
   pub met : (y : ℕ) → a ≤ y → y < b → get_or exprmap y 0 ≡ 0 → All (MetN (maps_of words maps)) (refs (get_or (exprs_of words tags places k) y []))
 
@@ -88,3 +106,7 @@ pub record Runs (words : List ℕ) (k : ℕ) (f : Builder → Builder) (g : Buil
 pub record Passes (words : List ℕ) (k : ℕ) (f : Builder → Builder) (g : Builder → List ℕ) (d : DerivedMut) (exprmap₀ : List ℕ) (stacks₀ : List (List ℕ)) (e₁ : ℕ) (e : Sizes') (r : Result Sizes' Full') (d' : DerivedMut) (exprmap : List ℕ) (stacks : List (List ℕ)) : Type 0 where
   pub does : Runs words k f g d.log.now d.logtags.now d.starts.now d.maps.now d.buckets.now exprmap₀ stacks₀ e₁ (going e) (told r) d'.log.now d'.logtags.now d'.starts.now d'.maps.now d'.buckets.now exprmap stacks
   pub same : SameArrays d d'
+
+-- `Passes` of what is read of a function
+abbrev pub PassesOf : ShaderFunction → (Builder → Builder) → (Builder → List ℕ) → DerivedMut → List ℕ → List (List ℕ) → Sizes' → Result Sizes' Full' → DerivedMut → List ℕ → List (List ℕ) → Type 0
+PassesOf f g h d exprmap₀ stacks₀ e r d' exprmap stacks = Passes f.source.image.words.now f.count g h d exprmap₀ stacks₀ f.base e r d' exprmap stacks

@@ -33,7 +33,7 @@ module _ (words tags : List ℕ) (n : ℕ) where
   module _ (b₃ : Bool) (t₃ : TestEnsures b₃ words tags n numbered) where
     pub number_fails : not b₃ ≡ true → Tested (Err BadRange) words tags n
     unfolding tested
-    number_fails e = record { same = λ m t. rw (tested, sym (t₃.same m t) ∙ not-true b₃ e); many = λ k q. let z : ◌≡◌ {A = ℕ} 0 1 = cc in absurd (omega arith) }
+    number_fails e = record { passed = λ q. cc; failed = λ d q m t. let z : d ≡ BadRange = cc in rw z (rw (tested, sym (t₃.same m t) ∙ not-true b₃ e)) }
 
     module _ (y₃ : not b₃ ≡ false) where
       first : (m : Module) → Taped words tags n m → numbered m ≡ true
@@ -51,7 +51,7 @@ module _ (words tags : List ℕ) (n : ℕ) where
       module _ (b₄ : Bool) (t₄ : Of words tags n b₄ lower) where
         pub order_fails : not b₄ ≡ true → Tested (Err BadReference) words tags n
         unfolding tested
-        order_fails e = record { same = λ m t. rw (tested, first m t, sym (t₄ m t) ∙ not-true b₄ e); many = λ k q. let z : ◌≡◌ {A = ℕ} 0 1 = cc in absurd (omega arith) }
+        order_fails e = record { passed = λ q. cc; failed = λ d q m t. let z : d ≡ BadReference = cc in rw z (rw (tested, first m t, sym (t₄ m t) ∙ not-true b₄ e)) }
 
         module _ (y₄ : not b₄ ≡ false) where
           second : (m : Module) → Taped words tags n m → lower m ≡ true
@@ -63,7 +63,7 @@ module _ (words tags : List ℕ) (n : ℕ) where
           module _ (b₅ : Bool) (t₅ : Of words tags n b₅ named) where
             pub name_fails : not b₅ ≡ true → Tested (Err BadNames) words tags n
             unfolding tested
-            name_fails e = record { same = λ m t. rw (tested, first m t, second m t, sym (t₅ m t) ∙ not-true b₅ e); many = λ k q. let z : ◌≡◌ {A = ℕ} 0 1 = cc in absurd (omega arith) }
+            name_fails e = record { passed = λ q. cc; failed = λ d q m t. let z : d ≡ BadNames = cc in rw z (rw (tested, first m t, second m t, sym (t₅ m t) ∙ not-true b₅ e)) }
 
             module _ (y₅ : not b₅ ≡ false) where
               third : (m : Module) → Taped words tags n m → named m ≡ true
@@ -72,11 +72,11 @@ module _ (words tags : List ℕ) (n : ℕ) where
               module _ (b₆ : Bool) (t₆ : TestEnsures b₆ words tags n in_scope) where
                 pub scope_fails : not b₆ ≡ true → Tested (Err BadScope) words tags n
                 unfolding tested
-                scope_fails e = record { same = λ m t. rw (tested, first m t, second m t, third m t, sym (t₆.same m t) ∙ not-true b₆ e); many = λ k q. let z : ◌≡◌ {A = ℕ} 0 1 = cc in absurd (omega arith) }
+                scope_fails e = record { passed = λ q. cc; failed = λ d q m t. let z : d ≡ BadScope = cc in rw z (rw (tested, first m t, second m t, third m t, sym (t₆.same m t) ∙ not-true b₆ e)) }
 
-                pub all_pass : not b₆ ≡ false → Tested (Ok n) words tags n
+                pub all_pass : not b₆ ≡ false → Tested (Ok tt) words tags n
                 unfolding tested
-                all_pass e = record { same = λ m t. sym (rw (tested, first m t, second m t, third m t, sym (t₆.same m t) ∙ not-false b₆ e)); many = λ k q. cc }
+                all_pass e = record { passed = λ q m t. sym (rw (tested, first m t, second m t, third m t, sym (t₆.same m t) ∙ not-false b₆ e)); failed = λ d q. cc }
 
 -- ---- what passes
 pub passes : (m : Module) → tested m ≡ 0 → Passes m
@@ -102,22 +102,29 @@ module _ (bytes words tags words₁ tags₁ : List ℕ) (words_long : length wor
     pub tape_so : Tape words₁ tags₁ n
     tape_so = record { holds = held_so.module_of_lem; taped = held_so.taped }
 
-    pub tested_so : (q : Result ℕ Refusal) → Tested q words₁ tags₁ n → TakeInEnsures q words₁ tags₁ bytes
+    passed_so : 0 ≡ tested held_so.module_of_lem → TakeInEnsures (Ok n) words₁ tags₁ bytes
     unfolding intake_of verdict
-    tested_so q t =
-        let m = held_so.module_of_lem in
-        let s : number_of q ≡ tested m = t.same m held_so.taped in
-        record {
-          same = s ∙ sym (rw (intake_of, held_so.sized_right, held_so.reads));
-          held = λ k g. let i = t.many k g in record {
-            holds = m;
-            sized_right = held_so.sized_right;
-            reads = held_so.reads;
-            long = i ∙ held_so.long;
-            taped = rw i held_so.taped;
-            passes = passes m (sym s ∙ ap number_of g);
-          };
-        }
+    passed_so s = record {
+      same = s ∙ sym (rw (intake_of, held_so.sized_right, held_so.reads));
+      held = λ k g. let i : k ≡ n = cc in record {
+        holds = held_so.module_of_lem;
+        sized_right = held_so.sized_right;
+        reads = held_so.reads;
+        long = i ∙ held_so.long;
+        taped = rw i held_so.taped;
+        passes = passes held_so.module_of_lem (sym s);
+      };
+    }
+
+    pub all_passed : Tested (Ok tt) words₁ tags₁ n → TakeInEnsures (Ok n) words₁ tags₁ bytes
+    all_passed t = passed_so (t.passed refl held_so.module_of_lem held_so.taped)
+
+    pub one_failed : (e : Refusal) → Tested (Err e) words₁ tags₁ n → TakeInEnsures (Err e) words₁ tags₁ bytes
+    unfolding intake_of verdict
+    one_failed e t = record {
+      same = t.failed e refl held_so.module_of_lem held_so.taped ∙ sym (rw (intake_of, held_so.sized_right, held_so.reads));
+      held = λ k g. cc;
+    }
 
 pub answer_so : (bytes words tags : List ℕ) (q : Result ℕ Refusal) → TakeInEnsures q words tags bytes → IntakeEnsures (number_of q) bytes
 unfolding wuldgisp_intake

@@ -14,9 +14,9 @@ number_of (Ok n) = 0
 number_of (Err e) = refusal_number e
 
 -- the answer of tests 3 to 6
-pub record Tested (r : Result ℕ Refusal) (words tags : List ℕ) (n : ℕ) : Type 0 where
-  pub same : (m : Module) → Taped words tags n m → number_of r ≡ tested m
-  pub many : (k : ℕ) → r ≡ Ok k → k ≡ n
+pub record Tested (r : Result (Unit {0}) Refusal) (words tags : List ℕ) (n : ℕ) : Type 0 where
+  pub passed : r ≡ Ok tt → (m : Module) → Taped words tags n m → 0 ≡ tested m
+  pub failed : (e : Refusal) → r ≡ Err e → (m : Module) → Taped words tags n m → refusal_number e ≡ tested m
 
 -- an accepted image, held by words and tags
 pub record Accepts (bytes words tags : List ℕ) (n : ℕ) : Type 0 where

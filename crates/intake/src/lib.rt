@@ -3,7 +3,6 @@
 
 ghost use Rattle.std.specs.Prelude.{◌≡◌, ℕ, Ok, length};
 ghost use Rattle.base_words.specs.Words.{words_of};
-ghost use Rattle.model.specs.Taped.{Tape};
 ghost use Rattle.model.specs.Image.{IntakeEnsures};
 ghost use Rattle.intake.specs.Taken.{number_of, Tested, TakeInEnsures};
 
@@ -12,8 +11,7 @@ use base_views::Image;
 use base_words::{Tags, Words};
 
 // Tests 3 to 6, of an image that is laid out.
-fn test(image: Image) -> Result<usize, Refusal>
-    requires { Tape image.words.now image.tags.now image.n }
+fn test(image: Image) -> Result<(), Refusal>
     ensures { Tested result image.entry.words.now image.entry.tags.now image.entry.n }
 {
     if !intake_numbers::numbered(image) {
@@ -28,7 +26,7 @@ fn test(image: Image) -> Result<usize, Refusal>
     if !intake_scope::in_scope(image) {
         return Err(Refusal::BadScope);
     }
-    Ok(image.n)
+    Ok(())
 }
 
 // Takes an image in: its count of words, or the refusal of the first test that fails. If it is accepted, words and tags hold it; if it is refused, nothing is
@@ -39,7 +37,8 @@ pub fn take_in(image: &[u8], words: &mut Words, tags: &mut Tags) -> Result<usize
     ensures { TakeInEnsures result words.new tags.new image.now }
 {
     let n = intake_layout::lay_out(image, words, tags)?;
-    test(Image { words, tags, n })
+    test(Image { words, tags, n })?;
+    Ok(n)
 }
 
 // The same where nobody needs what words and tags hold: the image's count of words, or the refusal.

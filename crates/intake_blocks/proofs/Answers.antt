@@ -9,7 +9,9 @@ use Rattle.intake_statements.specs.Tape.{Steps, steps_next, stepped}
 use Rattle.std.specs.Bool.{then_some}
 use Rattle.intake_blocks.specs.declared.Flow.{Flow}
 use Rattle.intake_blocks.specs.declared.Flow.TheVariants.{Through, Continues}
-use Rattle.intake_blocks.specs.Found.{flow_of, told, kept_of, StmtHere}
+use Rattle.intake_statements.specs.declared.expressions.Expressions.{Expressions}
+use Rattle.intake_statements.proofs.Laid.{exprs}
+use Rattle.intake_blocks.specs.Found.{flow_of, told, kept_of, StmtHere, BlockHere, StmtRequires, BlockRequires}
 
 -- ---- through a block
 pub record Skipping (ws : List ℕ) (n₀ i₀ k i : ℕ) : Type 0 where
@@ -73,3 +75,16 @@ kept_continues keep fin false p = absurd (other (sym p))
 -- ---- a statement whose scope stays up to any word from its end on
 pub here_for : {ws ts st : List ℕ} {count at stop k keep : ℕ} → StmtHere ws ts st count at stop k → stop ≤ keep → StmtHere ws ts st count at stop keep
 here_for here h = record { exprs = here.exprs; holds = here.holds; ends = here.ends; later = here.later; keeps = h }
+
+-- ---- what the functions require, with what the type of expressions says, and without
+pub stmt_here : (x : Expressions) {at stop keep : ℕ} → StmtRequires x at stop keep → let p = x.places in StmtHere p.cells.words.now p.cells.tags.now p.starts.now p.count at stop keep
+stmt_here x here = record { exprs = exprs x; holds = here.holds; ends = here.ends; later = here.later; keeps = here.keeps }
+
+pub block_here : (x : Expressions) {at fin keep : ℕ} → BlockRequires x at fin keep → let p = x.places in BlockHere p.cells.words.now p.cells.tags.now p.starts.now p.count at fin keep
+block_here x here = record { exprs = exprs x; holds = here.holds; ends = here.ends; later = here.later; keeps = here.keeps }
+
+pub stmt_asks : (x : Expressions) {at stop keep : ℕ} → (let p = x.places in StmtHere p.cells.words.now p.cells.tags.now p.starts.now p.count at stop keep) → StmtRequires x at stop keep
+stmt_asks x here = record { holds = here.holds; ends = here.ends; later = here.later; keeps = here.keeps }
+
+pub block_asks : (x : Expressions) {at fin keep : ℕ} → (let p = x.places in BlockHere p.cells.words.now p.cells.tags.now p.starts.now p.count at fin keep) → BlockRequires x at fin keep
+block_asks x here = record { holds = here.holds; ends = here.ends; later = here.later; keeps = here.keeps }

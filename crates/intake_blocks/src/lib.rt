@@ -2,18 +2,19 @@
 // what its continuing block evaluates, until the end of the Loop.
 //
 // Blocks and statements are walked by `while`: each says where the next one starts, which no range does.
+//
+// Where a statement or block begins and ends, its `place` and `keep` are parameters: of the eight calls of the four functions that have them six give other bounds or
+// another place, so that a struct of them would be made there, and taken apart by what is called.
 #![tactic(auto)]
 
-ghost use Rattle.std.specs.Prelude.{◌≡◌, ℕ, Bool, true, ◌||◌, [], ◌+◌, ◌≤◌, ◌<◌, get_or};
-ghost use Rattle.model.specs.Scope.{in_body};
-ghost use Rattle.intake_statements.specs.Fine.{fine_b};
-ghost use Rattle.intake_statements.specs.Tape.{block_of, Steps, stepped, exprs_of, marks};
-ghost use Rattle.intake_blocks.specs.Found.{place_of, kept_of, flow_of, StmtHere, BlockHere, FoundS, FoundB};
+ghost use Rattle.std.specs.Prelude.{◌≡◌, ℕ, Bool, true, ◌||◌, ◌+◌, ◌≤◌, ◌<◌, get_or};
+ghost use Rattle.intake_statements.specs.Tape.{Steps, stepped};
+ghost use Rattle.intake_blocks.specs.Found.{kept_of, flow_of, StmtRequires, BlockRequires, StmtEnsures, BlockEnsures, body_fine};
 
 use base_classes::BLOCK;
 use base_kinds::{BREAK, CONTINUE, EMIT, LOOP, RETURN, SWITCH};
 use base_words::Words;
-use intake_statements::{Expressions, emit, read, simple};
+use intake_statements::{Expressions, Until};
 
 // Which statements may stand at a place: a Break, a Continue, a Return.
 #[derive(Clone, Copy)]
@@ -59,7 +60,7 @@ fn skip(words: &Words, at: usize) -> usize
     ensures { result ≡ stepped (get_or words.now at 0) words.now (at + 1) }
 {
     let mut i = at + 1;
-    for _n in 0..words[at] {
+    for _ in 0..words[at] {
         i += words[i] as usize;
     }
     i
@@ -70,24 +71,25 @@ fn skip(words: &Words, at: usize) -> usize
 #[cycle(block_looped_parts_stmt)]
 fn parts(
     expressions: Expressions,
-    until: &mut [usize; 1024],
+    until: &mut Until,
     at: usize,
     stop: usize,
     place: Place,
 ) -> Option<Flow>
-    requires stmt_here { StmtHere expressions.image.words.now expressions.image.tags.now expressions.starts.now expressions.count at stop stop }
-    requires nonzero { (0 < get_or expressions.image.words.now (at + 1) 0) × (get_or expressions.image.words.now (at + 1) 0 < 4) }
-    requires breaks_value { get_or expressions.image.words.now (at + 1) 0 ≡ 3 → place.breaks ≡ true }
-    ensures { (keep : ℕ) → stop ≤ keep → FoundS expressions.entry.image.words.now expressions.entry.image.tags.now expressions.entry.starts.now expressions.entry.initial.now expressions.entry.count at stop keep (place_of place.breaks place.continues place.returns) until.old until.new result }
+    requires stmt { StmtRequires expressions at stop stop }
+    requires nonzero { (0 < get_or expressions.places.cells.words.now (at + 1) 0) × (get_or expressions.places.cells.words.now (at + 1) 0 < 4) }
+    requires breaks_value { get_or expressions.places.cells.words.now (at + 1) 0 ≡ 3 → place.breaks ≡ true }
+    ensures { (keep : ℕ) → stop ≤ keep → StmtEnsures expressions.entry at stop keep place until.old until.new result }
 {
+    let cells = expressions.places.cells;
     let mut i = at + 4;
     let mut flow = Flow::Through;
     while i < stop {
-        if expressions.image.tags[i] == BLOCK {
-            let fin = skip(expressions.image.words, i);
+        if cells.tags[i] == BLOCK {
+            let fin = skip(cells.words, i);
             flow = flow.then(block(expressions, until, i, fin, fin, place)?);
             i = fin;
-        } else if read(expressions, until, i, i) {
+        } else if expressions.places.read(until, i, i) {
             i += 1;
         } else {
             return None;
@@ -100,14 +102,14 @@ fn parts(
 #[cycle(block_looped_parts_stmt)]
 fn looped(
     expressions: Expressions,
-    until: &mut [usize; 1024],
+    until: &mut Until,
     at: usize,
     stop: usize,
     place: Place,
 ) -> Option<Flow>
-    requires stmt_here { StmtHere expressions.image.words.now expressions.image.tags.now expressions.starts.now expressions.count at stop stop }
-    requires at_value { get_or expressions.image.words.now (at + 1) 0 ≡ 4 }
-    ensures { (keep : ℕ) → stop ≤ keep → FoundS expressions.entry.image.words.now expressions.entry.image.tags.now expressions.entry.starts.now expressions.entry.initial.now expressions.entry.count at stop keep (place_of place.breaks place.continues place.returns) until.old until.new result }
+    requires stmt { StmtRequires expressions at stop stop }
+    requires at_value { get_or expressions.places.cells.words.now (at + 1) 0 ≡ 4 }
+    ensures { (keep : ℕ) → stop ≤ keep → StmtEnsures expressions.entry at stop keep place until.old until.new result }
 {
     let inside = Place {
         breaks: true,
@@ -119,29 +121,33 @@ fn looped(
         continues: false,
         returns: false,
     };
+    let words = expressions.places.cells.words;
     let body = at + 4;
-    let continuing = skip(expressions.image.words, body);
+    let continuing = skip(words, body);
     block(expressions, until, body, continuing, stop, inside)?;
-    let break_if = skip(expressions.image.words, continuing);
+    let break_if = skip(words, continuing);
     block(expressions, until, continuing, break_if, stop, bare)?;
-    read(expressions, until, break_if, break_if).then_some(Flow::Through)
+    expressions
+        .places
+        .read(until, break_if, break_if)
+        .then_some(Flow::Through)
 }
 
 // The statement from the word `at` to the word `stop`.
 #[cycle(block_looped_parts_stmt)]
 fn stmt(
     expressions: Expressions,
-    until: &mut [usize; 1024],
+    until: &mut Until,
     at: usize,
     stop: usize,
     keep: usize,
     place: Place,
 ) -> Option<Flow>
-    requires { StmtHere expressions.image.words.now expressions.image.tags.now expressions.starts.now expressions.count at stop keep }
-    ensures { FoundS expressions.entry.image.words.now expressions.entry.image.tags.now expressions.entry.starts.now expressions.entry.initial.now expressions.entry.count at stop keep (place_of place.breaks place.continues place.returns) until.old until.new result }
+    requires { StmtRequires expressions at stop keep }
+    ensures { StmtEnsures expressions.entry at stop keep place until.old until.new result }
 {
-    match expressions.image.words[at + 1] {
-        EMIT => emit(expressions, until, at, keep).then_some(Flow::Through),
+    match expressions.places.cells.words[at + 1] {
+        EMIT => expressions.emit(until, at, keep).then_some(Flow::Through),
         // A Block or an If.
         ..SWITCH => parts(expressions, until, at, stop, place),
         SWITCH => {
@@ -155,7 +161,9 @@ fn stmt(
         BREAK => place.breaks.then_some(Flow::Through),
         CONTINUE => place.continues.then_some(Flow::Continues),
         RETURN if !place.returns => None,
-        _ => simple(expressions, until, at, stop, keep).then_some(Flow::Through),
+        _ => expressions
+            .simple(until, at, stop, keep)
+            .then_some(Flow::Through),
     }
 }
 
@@ -163,19 +171,19 @@ fn stmt(
 #[cycle(block_looped_parts_stmt)]
 fn block(
     expressions: Expressions,
-    until: &mut [usize; 1024],
+    until: &mut Until,
     at: usize,
     fin: usize,
     keep: usize,
     place: Place,
 ) -> Option<Flow>
-    requires { BlockHere expressions.image.words.now expressions.image.tags.now expressions.starts.now expressions.count at fin keep }
-    ensures { FoundB expressions.entry.image.words.now expressions.entry.image.tags.now expressions.entry.starts.now expressions.entry.initial.now expressions.entry.count at fin keep (place_of place.breaks place.continues place.returns) until.old until.new result }
+    requires { BlockRequires expressions at fin keep }
+    ensures { BlockEnsures expressions.entry at fin keep place until.old until.new result }
 {
     let mut i = at + 1;
     let mut flow = Flow::Through;
     while i < fin {
-        let stop = i + expressions.image.words[i] as usize;
+        let stop = i + expressions.places.cells.words[i] as usize;
         let kept = flow.kept(keep, fin);
         flow = flow.then(stmt(expressions, until, i, stop, kept, place)?);
         i = stop;
@@ -183,17 +191,17 @@ fn block(
     Some(flow)
 }
 
-// Is the body from the word `at` to the word `end` in scope? Nothing is evaluated where it begins. What `until` has past its first `expressions.count` numbers
+// Is the body from the word `at` to the word `end` in scope? Nothing is evaluated where it begins. What `until` has past its first `expressions.places.count` numbers
 // is left from another function, and is not read.
-pub fn body(expressions: Expressions, until: &mut [usize; 1024], at: usize, end: usize) -> bool
-    requires block_here { BlockHere expressions.image.words.now expressions.image.tags.now expressions.starts.now expressions.count at end end }
-    ensures { result ≡ fine_b (exprs_of expressions.entry.image.words.now expressions.entry.image.tags.now expressions.entry.starts.now expressions.entry.count) (marks expressions.entry.image.words.now expressions.entry.image.tags.now expressions.entry.starts.now expressions.entry.count expressions.entry.initial.now) (block_of expressions.entry.image.words.now expressions.entry.image.tags.now at end) in_body [] [] }
+pub fn body(expressions: Expressions, until: &mut Until, at: usize, end: usize) -> bool
+    requires { BlockRequires expressions at end end }
+    ensures { result ≡ body_fine expressions.entry at end }
 {
     let place = Place {
         breaks: false,
         continues: false,
         returns: true,
     };
-    until[..expressions.count].fill(0);
+    until[..expressions.places.count].fill(0);
     block(expressions, until, at, end, end, place).is_some()
 }

@@ -10,6 +10,7 @@ listing at zero j = []
 listing at (suc n) j = at j ∷ listing at n (suc j)
 
 -- ---- names of functions and entry points, and keys: the first word of a record, or of a pair of the special types
+-- where record j of section k starts, or pair j of the special types
 unfoldable pub place_of : List ℕ → ℕ → ℕ → ℕ
 place_of ws k j = elim (eqb k 8) [ true ↦ offset_at 8 ws + 3 + 2 * j | false ↦ record_at k j ws ]
 
@@ -17,7 +18,7 @@ place_of ws k j = elim (eqb k 8) [ true ↦ offset_at 8 ws + 3 + 2 * j | false �
 unfoldable pub number_at : List ℕ → ℕ → ℕ → ℕ
 number_at ws k j = get_or ws (place_of ws k j) 0
 
--- they are in the words; a clause, since it is of words and of one section
+-- they are in the words. A clause: as the ghost field of a struct of words and section it would leave five contracts, and the struct would be made at five calls, each with the same proof as now
 pub record Placed (ws : List ℕ) (k : ℕ) : Type 0 where
   pub known : k < 9
   pub offset : (j : ℕ) → j < count_at k ws → (k ≡ 8 → ⊥) → offset_at k ws + j < 16384

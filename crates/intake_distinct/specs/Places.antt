@@ -8,16 +8,20 @@ use Rattle.std.specs.List.{list_all, range_with_len}
 unfoldable pub mix : ℕ → ℕ → ℕ
 mix h w = (h + w) * 2654435769 / 1048576 % 16777216
 
+-- the hash of the words, after those whose hash is h
 unfoldable pub mixed : List ℕ → ℕ → ℕ
 mixed [] h = h
 mixed (w ∷ ws) h = mixed ws (mix h w)
 
+-- the hash of a name
 unfoldable pub hash : List ℕ → ℕ
 hash ws = mixed ws 0
 
+-- the mark that a hash leaves
 abbrev pub print : ℕ → ℕ
 print h = h % 254 + 1
 
+-- the mark of a place at which hashes of other prints meet
 abbrev pub SEVERAL : ℕ
 SEVERAL = 255
 
@@ -25,6 +29,7 @@ SEVERAL = 255
 unfoldable pub shows : ℕ → ℕ → Bool
 shows mark h = eqb mark (print h) || eqb mark SEVERAL
 
+-- the mark at place p may be that of the hash h
 abbrev pub stands : List ℕ → ℕ → ℕ → Bool
 stands marks p h = shows (get_or marks p 0) h
 
@@ -36,6 +41,7 @@ pub record Leaves (before : List ℕ) (p h : ℕ) (after : List ℕ) (r : Bool) 
   pub others : (q g : ℕ) → stands before q g ≡ true → stands after q g ≡ true
 
 -- ---- of n things, code that gives the hash of the j-th and code that says whether it is alone: h and a are what they answer, and what has the hash of no later one is alone
+-- h and a are what they answer
 pub record Says (hashes : ℕ → ℕ → Type 0) (asks : ℕ → Bool → Type 0) (n : ℕ) (h : ℕ → ℕ) (a : ℕ → Bool) : Type 0 where
   pub hashed : (j r : ℕ) → j < n → hashes j r → r ≡ h j
   pub asked : (j : ℕ) (b : Bool) → j < n → asks j b → b ≡ a j

@@ -9,7 +9,7 @@ ghost use Rattle.std.specs.Prelude.{◌≡◌, ℕ, ◌-◌, ◌^◌, ◌≤◌,
 ghost use Rattle.model.specs.Module.{count_at};
 ghost use Rattle.model.specs.Names.{absent as absentOf, distinct as distinctOf, unlike as unlikeOf, differ as differOf};
 ghost use Rattle.intake_distinct.specs.Listed.{listing, place_of, number_at, Placed, name_at, Spelled};
-ghost use Rattle.intake_distinct.specs.Places.{mix as mixOf, hash as hashOf, print as printOf, Leaves, AllAlone};
+ghost use Rattle.intake_distinct.specs.Places.{mix as mixOf, hash as hashOf, print as fingerprintOf, Leaves, AllAlone};
 
 use base_views::{NAMES, SPECIAL, count, end_of, pair_at, start_of};
 use base_words::Words;
@@ -47,22 +47,22 @@ fn absent(words: &Words, k: usize, from: usize, x: u32) -> bool
     (from..count(words, k)).all(|j| x != number(words, k, j))
 }
 
-// The mark of a place at which hashes of other prints meet: a number, since the marks are bytes, and the others are prints, 1 to 254.
+// The mark of a place at which hashes of other fingerprints meet: a number, since the marks are bytes, and the others are fingerprints, 1 to 254.
 const SEVERAL: u8 = 255;
 
-// The mark that a hash leaves.
-fn print(h: usize) -> u8
-    ensures { result ≡ printOf h }
+// The mark that a hash leaves: its fingerprint.
+fn fingerprint(h: usize) -> u8
+    ensures { result ≡ fingerprintOf h }
 {
     (h % 254 + 1) as u8
 }
 
-// Whether the hash h has surely not left its mark at a place; it leaves it. No mark is 0, and where prints differ the mark is 255.
+// Whether the hash h has surely not left its mark at a place; it leaves it. No mark is 0, and where fingerprints differ the mark is 255.
 fn mark(seen: &mut [u8], at: usize, h: usize) -> bool
     requires { at < length seen.old }
     ensures { Leaves seen.old at h seen.new result }
 {
-    let own = print(h);
+    let own = fingerprint(h);
     let old = seen[at];
     let new = old != own && old != SEVERAL;
     if new {
@@ -83,6 +83,7 @@ fn all_alone<const MARKS: usize, H: Fn(usize) -> usize, A: Fn(usize) -> bool>(
     ensures { AllAlone (H.post hash) (A.post alone) count result }
 {
     let mut seen = [0u8; MARKS];
+    // A loop: each turn writes `seen`, and the closure of an `all` would have to say again what `hash` and `alone` require, and that `seen` keeps its length.
     for j in (0..count).rev() {
         let h = hash(j);
         if !mark(&mut seen, h % MARKS, h) && !alone(j) {
@@ -138,6 +139,7 @@ fn hash(name: &[u32]) -> usize
     ensures { result ≡ hashOf name.now }
 {
     let mut h = 0;
+    // A loop: the closure of a `fold` would have to say again what `mix` requires and ensures of the hash so far.
     for w in name {
         h = mix(h, *w);
     }

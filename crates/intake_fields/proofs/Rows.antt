@@ -268,10 +268,17 @@ module _ (s w from most : ℕ) (low : 110 ≤ s) (high : s < 126) (is_from : fro
         let e = list_entry s low h in
         (rw from_is e.start, rw from_is (listing ∙ rw (le-leb w (limit s) (omega (arith, limit_is))) (ap (rows w) (sym e.is))))
 
-  pub brings_block : (s ≡ 122) ⊎ ((s ≡ 122 → ⊥) × (s ≡ 123)) → (from < ROWS) × (brings_of s w ≡ rows w (row_at from))
+  of_block : (s ≡ 122) ⊎ (s ≡ 123) → (from < ROWS) × (brings_of s w ≡ rows w (row_at from))
   unfolding brings_of
-  brings_block (inl e) = (rw (from_is, e) block_entry.start, rw (from_is, e) (ap (rows w) (sym block_entry.is)))
-  brings_block (inr e) = (rw (from_is, e.1) cases-entry.start, rw (from_is, e.1) (ap (rows w) (sym cases-entry.is)))
+  of_block (inl e) = (rw (from_is, e) block_entry.start, rw (from_is, e) (ap (rows w) (sym block_entry.is)))
+  of_block (inr e) = (rw (from_is, e) cases-entry.start, rw (from_is, e) (ap (rows w) (sym cases-entry.is)))
+
+  two : (x : Bool) → eqb s 122 ≡ x → 122 ≤ s → s < 124 → (s ≡ 122) ⊎ (s ≡ 123)
+  two true e l h = inl (eqb-true s 122 e)
+  two false e l h = let n = eqb-false s 122 e in inr (omega (arith, n))
+
+  pub brings_block : 122 ≤ s → s < 124 → (from < ROWS) × (brings_of s w ≡ rows w (row_at from))
+  brings_block l h = of_block (two (eqb s 122) refl l h)
 
   f : ℕ
   f = get_or numbers (SYMBOLS + 2 * (s - 110)) 0
@@ -279,7 +286,17 @@ module _ (s w from most : ℕ) (low : 110 ≤ s) (high : s < 126) (is_from : fro
   m : ℕ
   m = get_or numbers (SYMBOLS + 2 * (s - 110) + 1) 0
 
-  module _ (h : 115 ≤ s) (n₁ : s ≡ 122 → ⊥) (n₂ : s ≡ 123 → ⊥) (n₃ : s ≡ 124 → ⊥) where
+  not_between : (s < 122) ⊎ (124 ≤ s) → (k : ℕ) → 122 ≤ k → k < 124 → s ≡ k → ⊥
+  not_between (inl l) k a b e = omega (arith, l, a, e)
+  not_between (inr l) k a b e = omega (arith, l, b, e)
+
+  module _ (h : 115 ≤ s) (out : (s < 122) ⊎ (124 ≤ s)) (n₃ : s ≡ 124 → ⊥) where
+    n₁ : s ≡ 122 → ⊥
+    n₁ = not_between out 122 (omega arith) (omega arith)
+
+    n₂ : s ≡ 123 → ⊥
+    n₂ = not_between out 123 (omega arith) (omega arith)
+
     group_entry : Entry s
     group_entry = entry_of s h high n₁ n₂ n₃
 

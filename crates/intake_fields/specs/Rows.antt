@@ -49,6 +49,7 @@ coded [] = []
 coded (repeats r m ∷ ss) = coded ss
 coded (chooses g ∷ ss) = g ++ coded ss
 
+-- the rows that are repeated
 unfoldable pub listed : List Symbol → List Row
 listed [] = []
 listed (repeats r m ∷ ss) = r ∷ listed ss
@@ -58,16 +59,20 @@ listed (chooses g ∷ ss) = listed ss
 unfoldable pub records : List Row
 records = table_rows ++ rays_row ∷ pair_row ∷ []
 
+-- all rows, in the order of the table
 unfoldable pub all_rows : List Row
 all_rows = coded symbols ++ (listed symbols ++ records)
 
 -- ---- places: where rows end, where the symbols' pairs are, and where the records' starts are
+-- where the rows end
 unfoldable pub ROWS : ℕ
 ROWS = length (laid all_rows)
 
+-- where the symbols' pairs are
 unfoldable pub SYMBOLS : ℕ
 SYMBOLS = ROWS + length (coded symbols)
 
+-- where the records' starts are
 unfoldable pub RECORDS : ℕ
 RECORDS = SYMBOLS + 2 * length symbols
 
@@ -78,6 +83,7 @@ pairs at from [] = []
 pairs at from (repeats r m ∷ ss) = at ∷ m ∷ pairs (suc (at + length r)) from ss
 pairs at from (chooses g ∷ ss) = from ∷ length g ∷ pairs at (from + length g) ss
 
+-- the whole table
 unfoldable pub numbers : List ℕ
 numbers = laid all_rows ++ (starts 0 (coded symbols) ++ (pairs (length (laid (coded symbols))) ROWS symbols ++ starts (length (laid (coded symbols ++ listed symbols))) records))
 
@@ -90,13 +96,16 @@ SIZE = length numbers
 unfoldable pub KIND_ROW : ℕ
 KIND_ROW = get_or numbers (SYMBOLS + 2 * (LENGTH - MEMBERS)) 0
 
+-- the row of the three optional special types
 unfoldable pub RAYS_ROW : ℕ
 RAYS_ROW = get_or numbers (RECORDS + 8) 0
 
+-- the row of a pair of special types
 unfoldable pub PAIR_ROW : ℕ
 PAIR_ROW = get_or numbers (RECORDS + 9) 0
 
 -- ---- rows by their place
+-- the symbols up to the first 0
 unfoldable pub row : List ℕ → Row
 row [] = []
 row (zero ∷ ns) = []

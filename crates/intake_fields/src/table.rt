@@ -4,7 +4,8 @@
 ghost use Rattle.std.specs.Prelude.{◌≡◌, ◌<◌, get_or};
 ghost use Rattle.intake_fields.specs.Rows.{numbers};
 
-// SYMBOLS to PAIR_ROW are places in TABLE, which is an array of numbers, since the model's rows are compared with it by computing.
+// SYMBOLS to PAIR_ROW are places in TABLE, which is an array of numbers, since the model's rows are compared with it by computing. It is one array and not three, since
+// `numbers`, which is public, promises it as one.
 // Where the symbols' pairs are, and where the records' rows are.
 pub const SYMBOLS: usize = 468;
 

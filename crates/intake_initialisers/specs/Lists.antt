@@ -8,6 +8,7 @@ use Rattle.model.specs.Initial.{initialised}
 use Rattle.theory_image.specs.FunctionViews.{Stands}
 
 -- ---- the two lists of a function that initialisers are about, by where they have their counts
+-- words and tags hold the function f, whose lists of locals and of expressions have their numbers at the words `locals` and `exprs`
 pub record Lists (words tags : List ℕ) (locals exprs end : ℕ) (f : Function) : Type 0 where
   pub start : ℕ
   pub long : Long words tags

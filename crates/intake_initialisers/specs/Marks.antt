@@ -12,6 +12,7 @@ use Rattle.intake_initialisers.specs.Room.{blank}
 use Rattle.intake_initialisers.specs.declared.visited.Visited.{Visited}
 
 -- ---- where records start: the places of kinds, up to the count of named expressions and with it
+-- where each record of the words with these classes starts, the first word at `at`, and where the last one ends
 unfoldable pub finds : ℕ → List ℕ → List ℕ
 finds at [] = []
 finds at (s ∷ ss) = elim (eqb s NAMED) [ true ↦ at ∷ [] | false ↦ elim (eqb s EXPR_KIND) [ true ↦ at ∷ finds (suc at) ss | false ↦ finds (suc at) ss ] ]
@@ -30,6 +31,7 @@ unfoldable pub reads : ℕ → ℕ → Option ℕ
 reads s w = elim (eqb s EXPR) [ true ↦ Some w | false ↦ elim (eqb s OPT_EXPR) [ true ↦ before w | false ↦ None ] ]
 
 -- ---- marks
+-- whether expression y has a mark
 unfoldable pub on : List Bool → ℕ → Bool
 on marks y = get_or marks y false
 

@@ -1,5 +1,5 @@
 // What the initialisers of a function's locals reach, along operands as they are, lower or not: marks and a list of what is still to be visited, so
-// that each expression is visited once.
+// that each expression is visited once. Where the expressions of a function start is asked of `places` by intake_scope and function_localize as well.
 #![tactic(auto)]
 
 ghost use Rattle.std.specs.Prelude.{◌≡◌, [], ◌∷◌, ◌+◌, ◌*◌, ◌≤◌, length, drop, replicate};
@@ -11,7 +11,7 @@ ghost use Rattle.intake_initialisers.specs.Marks.{finds, Found, reads, inits, Un
 
 use base_classes::{EXPR, EXPR_KIND, NAMED, OPT_EXPR};
 use base_kinds::constant;
-use base_views::Image;
+use base_views::Cells;
 use base_words::{Tags, Words};
 
 mod visited;
@@ -19,7 +19,8 @@ mod visited;
 pub use visited::Visited;
 
 // Where each expression record starts, from `at` on, and where the last one ends, as numbers of 16 bits or more: a record starts with its kind, and the last is
-// followed by the number of named expressions.
+// followed by the number of named expressions. A loop, since it writes; that number ends it, and has an arm of its own: one arm for both classes, which writes once,
+// would ask the class a second time, to return. The stretch is two numbers with their bounds, as those of `spread`: each would be a struct for one contract.
 pub fn places<N: From<u16> + Copy>(tags: &Tags, at: usize, end: usize, starts: &mut [N; 1025])
     requires tags_len { length tags.now ≡ 16384 }
     requires at_le_end { at ≤ end }
@@ -69,7 +70,8 @@ impl Visited {
         }
     }
 
-    // The same, of what was in use: the list may hold anything, since it is written before it is read.
+    // The same, of what was in use: the list may hold anything, since it is written before it is read. `*self = Visited::new(count)` would clear its 4,096 bytes as well,
+    // for each function.
     pub fn begin(&mut self, count: usize)
         requires { count ≤ 1024 }
         ensures { Unvisited count self.old.list self.new }
@@ -93,13 +95,13 @@ impl Visited {
     }
 
     // Visits what the words from `at` to `end` read.
-    fn spread(&mut self, image: Image, at: usize, end: usize)
+    fn spread(&mut self, cells: Cells, at: usize, end: usize)
         requires at_le_end { at ≤ end }
         requires end_bound { end ≤ 16384 }
-        ensures { Visits (ops_of (between image.entry.tags.now image.entry.words.now at end)) self.old self.new }
+        ensures { Visits (ops_of (between cells.entry.tags.now cells.entry.words.now at end)) self.old self.new }
     {
         for j in at..end {
-            if let Some(x) = operand(image.tags[j], image.words[j]) {
+            if let Some(x) = operand(cells.tags[j], cells.words[j]) {
                 self.visit(x);
             }
         }
@@ -119,39 +121,39 @@ impl Visited {
     }
 
     // Visits what is on the list, until nothing is: whether all of it is of kinds that are allowed outside functions too.
-    pub fn reach(&mut self, image: Image, starts: &[u32; 1025]) -> bool
-        requires { Reaching image.words.now image.tags.now starts.now self.old }
-        ensures { Reaches result image.entry.words.now image.entry.tags.now starts.now self.old self.new }
+    pub fn reach(&mut self, cells: Cells, starts: &[u32; 1025]) -> bool
+        requires { Reaching cells.words.now cells.tags.now starts.now self.old }
+        ensures { Reaches result cells.entry.words.now cells.entry.tags.now starts.now self.old self.new }
     {
         while 0 < self.top {
             self.top -= 1;
             let x = self.list[self.top] as usize;
             let at = starts[x] as usize;
-            if !constant(image.words[at]) {
+            if !constant(cells.words[at]) {
                 return false;
             }
-            self.spread(image, at, starts[x + 1] as usize);
+            self.spread(cells, at, starts[x + 1] as usize);
         }
         true
     }
 }
 
 // Whether what the initialisers reach is of those kinds; `locals` and `exprs` are where the two lists have their numbers.
-pub fn initialised(image: Image, locals: usize, exprs: usize, end: usize) -> bool
-    requires { Listed image.words.now image.tags.now locals exprs end }
-    ensures { Initialised result image.entry.words.now image.entry.tags.now locals exprs end }
+pub fn initialised(cells: Cells, locals: usize, exprs: usize, end: usize) -> bool
+    requires { Listed cells.words.now cells.tags.now locals exprs end }
+    ensures { Initialised result cells.entry.words.now cells.entry.tags.now locals exprs end }
 {
-    let count = image.words[locals] as usize;
+    let count = cells.words[locals] as usize;
     // Two early returns: after `||` would stand the rest as a block, which is no plainer.
     if count == 0 {
         return true;
     }
-    let mut visited = Visited::new(image.words[exprs] as usize);
-    visited.roots(image.words, locals + 1, count);
+    let mut visited = Visited::new(cells.words[exprs] as usize);
+    visited.roots(cells.words, locals + 1, count);
     if visited.top == 0 {
         return true;
     }
     let mut starts = [0; 1025];
-    places(image.tags, exprs + 1, end, &mut starts);
-    visited.reach(image, &starts)
+    places(cells.tags, exprs + 1, end, &mut starts);
+    visited.reach(cells, &starts)
 }

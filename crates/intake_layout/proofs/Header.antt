@@ -3,7 +3,7 @@ use mathlib.Core.Path.{◌≡◌, refl, sym, ap, ◌∙◌}
 use mathlib.Core.Bool.{true, false, ◌&&◌}
 use mathlib.Core.List.{List}
 use Rattle.std.proofs.Common.{◌⊎◌, inl, inr}
-use Prim.Native.Nat.{ℕ, zero, suc, ◌+◌, ◌-◌, ◌*◌, ◌^◌, ◌≤◌, ◌<◌}
+use Prim.Native.Nat.{ℕ, suc, ◌+◌, ◌-◌, ◌*◌, ◌^◌, ◌≤◌, ◌<◌}
 use native.Mathlib.Numerals.{add-one}
 use native.Mathlib.Omega.{arith}
 use lib.Dec.{eqb, leb}
@@ -27,11 +27,15 @@ module _ (words : List ℕ) (base stop n j : ℕ) (h : j < n) (room : base + n �
 
 -- ---- the header's words
 module _ (words : List ℕ) (total : ℕ) (large : 20 ≤ total) (enough : total ≤ length words) where
-  pub count_is : (k : ℕ) → k < 9 → count_at k (take total words) ≡ get_or words (2 + 2 * k) 0
+  pub count_is : (k : ℕ) → k < 9 → count_at k (take total words) ≡ count_at k words
   unfolding count_at
   count_is k h = get_or-take total words (2 + 2 * k) 0 (omega arith)
 
-  pub offset_is : (k : ℕ) → k < 9 → offset_at k (take total words) ≡ get_or words (3 + 2 * k) 0
+  pub count-word : (k : ℕ) → k < 9 → count_at k (take total words) ≡ get_or words (2 + 2 * k) 0
+  unfolding count_at
+  count-word k h = get_or-take total words (2 + 2 * k) 0 (omega arith)
+
+  pub offset_is : (k : ℕ) → k < 9 → offset_at k (take total words) ≡ offset_at k words
   unfolding offset_at
   offset_is k h = get_or-take total words (3 + 2 * k) 0 (omega arith)
 
@@ -39,11 +43,9 @@ module _ (words : List ℕ) (total : ℕ) (large : 20 ≤ total) (enough : total
   unfolding end_at
   end-last k e = rw (end_at, eq-eqb k 8 e) (length-take-le total words enough)
 
-  pub end-next : (k : ℕ) → (k ≡ 8 → ⊥) → k < 9 → end_at k (take total words) ≡ get_or words (5 + 2 * k) 0
-  unfolding end_at offset_at
-  end-next k n h =
-      let e : 3 + 2 * suc k ≡ 5 + 2 * k = omega arith in
-      rw (end_at, ne_eqb k 8 n, e) (get_or-take total words (5 + 2 * k) 0 (omega arith))
+  pub end-next : (k : ℕ) → (k ≡ 8 → ⊥) → k < 9 → end_at k (take total words) ≡ offset_at (k + 1) words
+  unfolding end_at
+  end-next k n h = rw (end_at, ne_eqb k 8 n, add-one k) (offset_is (suc k) (omega arith))
 
 -- ---- limits
 limits-length : length limits ≡ 9
@@ -68,19 +70,19 @@ module _ (words : List ℕ) (total : ℕ) (large : 20 ≤ total) (enough : total
       unfolding placed ws
       opened = rw (drop-cons limits k 0 (omega (arith, limits-length)))
 
-      pub placed_start : (start : ℕ) → start ≡ get_or words (3 + 2 * k) 0 → (start ≡ at → ⊥) → false ≡ placed limits 0 20 (take total words)
+      pub placed_start : (start : ℕ) → start ≡ offset_at k words → (start ≡ at → ⊥) → false ≡ placed limits 0 20 (take total words)
       unfolding ws
       placed_start start is n = sym (opened ∙ rw (ne_eqb (offset_at k (take total words)) at (λ q. n (is ∙ sym (offset_is words total large enough k h) ∙ q)))) ∙ inv.same
 
-      module _ (start end most : ℕ) (is-start : start ≡ get_or words (3 + 2 * k) 0) (is-end : end ≡ end_at k (take total words)) (is_most : most ≡ get_or limits k 0) where
+      module _ (start end most : ℕ) (is-start : start ≡ offset_at k words) (is-end : end ≡ end_at k (take total words)) (is_most : most ≡ get_or limits k 0) where
         start_is : offset_at k (take total words) ≡ start
         start_is = offset_is words total large enough k h ∙ sym is-start
 
-        pub placed_many : start ≡ at → most < get_or words (2 + 2 * k) 0 → false ≡ placed limits 0 20 (take total words)
+        pub placed_many : start ≡ at → most < count_at k words → false ≡ placed limits 0 20 (take total words)
         unfolding ws
         placed_many e l = sym (opened ∙ rw (eq-eqb (offset_at k (take total words)) at (start_is ∙ e), lt-leb (count_at k (take total words)) (get_or limits k 0) (omega (arith, count_is words total large enough k h, is_most)))) ∙ inv.same
 
-        module _ (e : start ≡ at) (l : get_or words (2 + 2 * k) 0 ≤ most) where
+        module _ (e : start ≡ at) (l : count_at k words ≤ most) where
           few : count_at k (take total words) ≤ get_or limits k 0
           few = omega (arith, count_is words total large enough k h, is_most)
 
@@ -99,8 +101,8 @@ module _ (words : List ℕ) (total : ℕ) (large : 20 ≤ total) (enough : total
             same = rw (add-one k, is-end) (sym (opened ∙ rw (eq-eqb (offset_at k (take total words)) at (start_is ∙ e), le-leb (count_at k (take total words)) (get_or limits k 0) few, le-leb at (end_at k (take total words)) (omega (arith, is-end)), le-leb (end_at k (take total words)) (length (take total words)) (omega (arith, is-end, length-take-le total words enough)))) ∙ inv.same);
           }
 
-      pub placed_out : (start end most : ℕ) → start ≡ get_or words (3 + 2 * k) 0 → end ≡ end_at k (take total words) → most ≡ get_or limits k 0
-          → (start ≡ at → ⊥) ⊎ (((start ≡ at) × (most < get_or words (2 + 2 * k) 0)) ⊎ (((start ≡ at) × (get_or words (2 + 2 * k) 0 ≤ most) × (end < at)) ⊎ ((start ≡ at) × (get_or words (2 + 2 * k) 0 ≤ most) × (at ≤ end) × (total < end))))
+      pub placed_out : (start end most : ℕ) → start ≡ offset_at k words → end ≡ end_at k (take total words) → most ≡ get_or limits k 0
+          → (start ≡ at → ⊥) ⊎ (((start ≡ at) × (most < count_at k words)) ⊎ (((start ≡ at) × (count_at k words ≤ most) × (end < at)) ⊎ ((start ≡ at) × (count_at k words ≤ most) × (at ≤ end) × (total < end))))
           → false ≡ placed limits 0 20 (take total words)
       placed_out start end most e f g (inl n) = placed_start start e n
       placed_out start end most e f g (inr (inl q)) = placed_many start end most e f g q.0 q.1
@@ -121,5 +123,5 @@ end_of_none words base stop n j h room enough small k = (next-none words base st
 pub end_at_last : (words : List ℕ) (total k : ℕ) → 20 ≤ total → total ≤ length words → total ≤ 16384 → k ≡ 8 → (total ≡ end_at k (take total words)) × (total < 2 ^ 32)
 end_at_last words total k large enough small e = (sym (end-last words total large enough k e), omega arith)
 
-pub end_at_next : (words : List ℕ) (total k : ℕ) → 20 ≤ total → total ≤ length words → k < 9 → (k ≡ 8 → ⊥) → get_or words (5 + 2 * k) 0 < 2 ^ 32 → (get_or words (5 + 2 * k) 0 ≡ end_at k (take total words)) × (get_or words (5 + 2 * k) 0 < 2 ^ 32)
+pub end_at_next : (words : List ℕ) (total k : ℕ) → 20 ≤ total → total ≤ length words → k < 9 → (k ≡ 8 → ⊥) → offset_at (k + 1) words < 2 ^ 32 → (offset_at (k + 1) words ≡ end_at k (take total words)) × (offset_at (k + 1) words < 2 ^ 32)
 end_at_next words total k large enough h n l = (sym (end-next words total large enough k n h), l)

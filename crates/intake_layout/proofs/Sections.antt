@@ -25,7 +25,7 @@ use Rattle.theory_image.specs.Readers.{Good, good, good_misfit, good_unknown, To
 use Rattle.theory_image.specs.Tables.{laid_of, table_took}
 use Rattle.theory_image.specs.Sections.{length-places}
 use Rattle.intake_fields.proofs.Reading.{Reads, reads, no_fit, no_code, reads-pieces, reads_times, reads-join}
-use Rattle.intake_layout.proofs.Header.{count_is, offset_is, end-last, end-next}
+use Rattle.intake_layout.proofs.Header.{count-word, offset_is, end-last, end-next}
 use Rattle.intake_layout.proofs.Extents.{noted_err, noted_ok, then_bad, then_strange, then_fits, after_bad}
 
 -- ---- sections in place
@@ -183,13 +183,13 @@ module _ (words tags₀ : List ℕ) (total : ℕ) (large : 20 ≤ total) (enough
   part_same a b h = ap (drop a) (take-take b total words h)
 
   module _ (k : ℕ) (h : k < 8) where
-    pub base_is : (w : ℕ) → w ≡ get_or words (3 + 2 * k) 0 → w ≡ offset_at k (take total words)
+    pub base_is : (w : ℕ) → w ≡ offset_at k words → w ≡ offset_at k (take total words)
     base_is w e = e ∙ sym (offset_is words total large enough k (omega arith))
 
-    pub stop_is : (w : ℕ) → w ≡ get_or words (5 + 2 * k) 0 → w ≡ end_at k (take total words)
+    pub stop_is : (w : ℕ) → w ≡ offset_at (k + 1) words → w ≡ end_at k (take total words)
     stop_is w e = e ∙ sym (end-next words total large enough k (omega arith) (omega arith))
 
-    module _ (base stop : ℕ) (is_base : base ≡ get_or words (3 + 2 * k) 0) (is_stop : stop ≡ get_or words (5 + 2 * k) 0) where
+    module _ (base stop : ℕ) (is_base : base ≡ offset_at k words) (is_stop : stop ≡ offset_at (k + 1) words) where
       pub sections_forth : base ≤ stop
       sections_forth = omega (arith, base_is base is_base, stop_is stop is_stop, (stands k (omega arith)).forth)
 
@@ -218,7 +218,7 @@ module _ (words tags₀ : List ℕ) (total : ℕ) (large : 20 ≤ total) (enough
           unfolding here ws section
           here_is =
               ap (λ q. tabled q (get_or words (2 + 2 * k) 0) (slice base stop words)) (ap row_at is_pc ∙ (row-entry k h).is)
-              ∙ ap (λ n. tabled (get_or table_rows k []) n (slice base stop words)) (sym (count_is words total large enough k (omega arith)))
+              ∙ ap (λ n. tabled (get_or table_rows k []) n (slice base stop words)) (sym (count-word words total large enough k (omega arith)))
               ∙ ap (tabled (get_or table_rows k []) (count_at k (take total words))) (sym (part_same base stop sections-total) ∙ ap (λ j. slice j stop (take total words)) (base_is base is_base) ∙ ap (λ j. slice (offset_at k (take total words)) j (take total words)) (stop_is stop is_stop))
 
           opened : sections_from (drop k table_rows) k (take total words) ≡ both ◌++◌ here rest
@@ -260,16 +260,16 @@ module _ (words tags₀ : List ℕ) (total : ℕ) (large : 20 ≤ total) (enough
           sections_next b' g = noted_ok (Sectioning words tags₀ total tags₁ (k + 1)) b r b' g sections_fits sections_strange
 
   -- ---- the last section
-  pub last_forth : (base : ℕ) → base ≡ get_or words 19 0 → base ≤ total
+  pub last_forth : (base : ℕ) → base ≡ offset_at 8 words → base ≤ total
   last_forth base e = omega (arith, e, offset_is words total large enough 8 (omega arith), (stands 8 (omega arith)).forth, end-last words total large enough 8 refl)
 
-  module _ (tags : List ℕ) (k : ℕ) (b : Bool) (inv : Sectioning words tags₀ total tags k b) (h : 8 ≤ k) (base : ℕ) (is_base : base ≡ get_or words 19 0) (r : Held) (tags₁ : List ℕ) (got : Covers r tags₁ tags base (special (get_or words 18 0) (slice base total words))) where
+  module _ (tags : List ℕ) (k : ℕ) (b : Bool) (inv : Sectioning words tags₀ total tags k b) (h : 8 ≤ k) (base : ℕ) (is_base : base ≡ offset_at 8 words) (r : Held) (tags₁ : List ℕ) (got : Covers r tags₁ tags base (special (get_or words 18 0) (slice base total words))) where
     last_is : special (get_or words 18 0) (slice base total words) ≡ sections_from (drop k table_rows) k (take total words)
     unfolding sections_from table_rows section
     last_is =
         let e : k ≡ 8 = omega (arith, inv.some_left) in
         rw e
-        (ap (λ n. special n (slice base total words)) (sym (count_is words total large enough 8 (omega arith)))
+        (ap (λ n. special n (slice base total words)) (sym (count-word words total large enough 8 (omega arith)))
         ∙ ap (special (count_at 8 (take total words))) (sym (part_same base total (le_refl total)) ∙ ap (λ j. slice j total (take total words)) (is_base ∙ sym (offset_is words total large enough 8 (omega arith))) ∙ ap (λ j. slice (offset_at 8 (take total words)) j (take total words)) (sym (end-last words total large enough 8 refl))))
 
     base_at : base ≡ offset_at k (take total words)

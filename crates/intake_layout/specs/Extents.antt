@@ -15,6 +15,7 @@ abbrev pub Classes : Type 0
 Classes = List ℕ
 
 -- ---- what the code reports, and what it has to report: nothing is promised about the tags of a refused extent
+-- what the code reports
 abbrev pub Held : Type 0
 Held = Result (Unit {0}) Misread
 
@@ -57,6 +58,7 @@ noted b (Err Strange) = Ok true
 noted b (Err Misfit) = Err Misfit
 
 -- ---- one record
+-- the classes of cells
 abbrev pub classes : Cells → Classes
 classes cs = map class cs
 
@@ -70,6 +72,7 @@ unfoldable pub records_left : Reader → List ℕ → ℕ → ℕ → ℕ → �
 records_left p words base stop n j at = map_l (λ rs. classes (flat_all rs)) (records p (stop - base) (at - base) (slice (base + j) (base + n) words) (slice at stop words))
 
 -- ---- a section
+-- those of a section of n records: of their places, and of the records
 abbrev pub table_classes : ℕ → List Cells → Classes
 table_classes n rs = replicate n PLACE ++ classes (flat_all rs)
 

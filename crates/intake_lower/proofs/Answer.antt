@@ -1,16 +1,16 @@
 -- What the passes of an image say together: the test of refusal 4, for the module that words and tags hold.
 use mathlib.Core.Path.{◌≡◌, refl, sym, ap, ◌∙◌}
-use mathlib.Core.Bool.{Bool, true, false}
+use mathlib.Core.Bool.{Bool, true, false, ◌&&◌}
 use mathlib.Core.List.{List, [], ◌∷◌}
 use Prim.Native.Nat.{ℕ, zero, suc, ◌≤◌, ◌<◌}
 use native.Mathlib.Omega.{arith}
 use lib.Dec.{ltb, leb, leb-zero, leb-suc-suc}
 use lib.ListN.{length, get_or, get_or-eq_default}
 use borrow.Author.Tests.{leb-true, leb-false}
-use Rattle.theory_lists.specs.Booleans.{and_right}
-use Rattle.model.specs.Outcome.{Cells, word}
+use Rattle.theory_lists.specs.Booleans.{and_right, and_assoc}
+use Rattle.model.specs.Outcome.{Cells, class, word}
 use Rattle.model.specs.Table.{SPAN, UPTO, NAME, TYPE, INIT, OPT_INIT, WORD, constant_row, override_row}
-use Rattle.model.specs.Module.{Module, count_at, offset_at}
+use Rattle.model.specs.Module.{Module, count_at, offset_at, flat_table}
 use Rattle.model.specs.View.{tables}
 use Rattle.model.specs.Taped.{Tape, Taped}
 use Rattle.model.specs.Operands.{optional}
@@ -44,6 +44,20 @@ opt_below (suc o) e = leb-suc-suc (suc o) e ∙ sym (and_right (ltb o e))
 one_below : (i e : ℕ) → ltb (suc i) (suc e) ≡ below (i ∷ []) e
 unfolding below
 one_below i e = leb-suc-suc (suc i) e ∙ sym (and_right (ltb i e))
+
+-- a pass with two tests is the passes with each
+and_swap : (a b c d : Bool) → (a && b) && (c && d) ≡ (a && c) && (b && d)
+and_swap true true c d = refl
+and_swap true false true d = refl
+and_swap true false false d = refl
+and_swap false b c d = refl
+
+pass_both : (next : ℕ → ℕ → ℕ) (f g : ℕ → ℕ → ℕ → Bool) (cs : Cells) (n : ℕ) → pass cs next (λ s w n. f s w n && g s w n) n ≡ pass cs next f n && pass cs next g n
+unfolding pass
+pass_both next f g [] n = refl
+pass_both next f g (c ∷ cs) n =
+    let k : ℕ = next (class c) n in
+    ap ((f (class c) (word c) k && g (class c) (word c) k) &&◌) (pass_both next f g cs k) ∙ and_swap (f (class c) (word c) k) (g (class c) (word c) k) (pass cs next f k) (pass cs next g k)
 
 -- code whose contracts are the definitions
 does : (next : ℕ → ℕ → ℕ) (ok : ℕ → ℕ → ℕ → Bool) → Does (λ s n r. r ≡ next s n) (λ s w n b. b ≡ ok s w n) next ok
@@ -110,16 +124,15 @@ module _ {words tags : List ℕ} {n : ℕ} {m : Module} (t : Taped words tags n 
   unfolding tables
   types-answer a e p q r got = got.same type_next type_ok (does type_next type_ok) ∙ rw (p, q) (ap (λ cs. pass cs type_next type_ok 0) (table-between t 1 (omega arith)) ∙ types_are t.well.types-ok.each)
 
-  pub exprs_answer : (a e : ℕ) → a ≡ offset_at 5 words → e ≡ offset_at 6 words → (r : Bool) → Answers expr_next expr_ok r words tags a e → r ≡ operands_lower m.exprs 0
+  pub globals_answer : (a e : ℕ) → a ≡ offset_at 5 words → e ≡ offset_at 6 words → (tests : ℕ → ℕ → ℕ → Bool → Type 0) → ((s w n : ℕ) (b : Bool) → tests s w n b → b ≡ expr_ok s w n && init_ok words s w n) → (r : Bool) → Passed (λ s n r. r ≡ expr_next s n) tests r words tags a e → r ≡ operands_lower m.exprs 0 && inits_lower m.exprs m.constants m.overrides 0
   unfolding tables
-  exprs_answer a e p q r got = got.same expr_next expr_ok (does expr_next expr_ok) ∙ rw (p, q) (ap (λ cs. pass cs expr_next expr_ok 0) (table-between t 5 (omega arith)) ∙ exprs_are t.well.exprs_ok.each)
-
-  pub inits-answer : (a e : ℕ) → a ≡ offset_at 5 words → e ≡ offset_at 6 words → (tests : ℕ → ℕ → ℕ → Bool → Type 0) → ((s w n : ℕ) (b : Bool) → tests s w n b → b ≡ init_ok words s w n) → (r : Bool) → Passed (λ s n r. r ≡ expr_next s n) tests r words tags a e → r ≡ inits_lower m.exprs m.constants m.overrides 0
-  unfolding tables
-  inits-answer a e p q tests tested r got =
-      got.same expr_next (init_ok words) (record { counted = λ s n r _ _ is. is; tested = λ s w n b _ _ _ is. tested s w n b is })
+  globals_answer a e p q tests tested r got =
+      got.same expr_next (λ s w n. expr_ok s w n && init_ok words s w n) (record { counted = λ s n r _ _ is. is; tested = λ s w n b _ _ _ is. tested s w n b is })
       ∙ rw (p, q)
-      (ap (λ cs. pass cs expr_next (init_ok words) 0) (table-between t 5 (omega arith)) ∙ inits_are words m.constants m.overrides constant-same override-same t.well.exprs_ok.each)
+      (ap (λ cs. pass cs expr_next (λ s w n. expr_ok s w n && init_ok words s w n) 0) (table-between t 5 (omega arith))
+      ∙ pass_both expr_next expr_ok (init_ok words) (flat_table m.exprs) 0
+      ∙ ap (◌&& pass (flat_table m.exprs) expr_next (init_ok words) 0) (exprs_are t.well.exprs_ok.each)
+      ∙ ap (operands_lower m.exprs 0 &&◌) (inits_are words m.constants m.overrides constant-same override-same t.well.exprs_ok.each))
 
   pub functions_answer : (a e : ℕ) → a ≡ offset_at 6 words → e ≡ offset_at 7 words → (r : Bool) → Answers expr_next expr_ok r words tags a e → r ≡ functions_lower m.functions
   unfolding tables
@@ -139,21 +152,17 @@ module _ (m : Module) (a : Bool) (types : a ≡ types_lower m.types 0) where
   unfolding lower
   types_fail e = rw (lower, sym types ∙ e)
 
-  module _ (a-ok : a ≡ true) (b : Bool) (exprs : b ≡ operands_lower m.exprs 0) where
-    pub exprs_fail : b ≡ false → false ≡ lower m
+  module _ (a-ok : a ≡ true) (b : Bool) (globals : b ≡ operands_lower m.exprs 0 && inits_lower m.exprs m.constants m.overrides 0) where
+    opened : lower m ≡ b && (functions_lower m.functions && entries_lower m.entries)
     unfolding lower
-    exprs_fail e = rw (lower, sym types ∙ a-ok, sym exprs ∙ e)
+    opened = rw (lower, sym types ∙ a-ok) (sym (and_assoc (operands_lower m.exprs 0) (inits_lower m.exprs m.constants m.overrides 0) (functions_lower m.functions && entries_lower m.entries)) ∙ ap (◌&& (functions_lower m.functions && entries_lower m.entries)) (sym globals))
 
-    module _ (b-ok : b ≡ true) (c : Bool) (inits : c ≡ inits_lower m.exprs m.constants m.overrides 0) where
-      pub inits_fail : c ≡ false → false ≡ lower m
-      unfolding lower
-      inits_fail e = rw (lower, sym types ∙ a-ok, sym exprs ∙ b-ok, sym inits ∙ e)
+    pub globals_fail : b ≡ false → false ≡ lower m
+    globals_fail e = sym (opened ∙ rw e refl)
 
-      module _ (c-ok : c ≡ true) (d : Bool) (functions : d ≡ functions_lower m.functions) where
-        pub functions_fail : d ≡ false → false ≡ lower m
-        unfolding lower
-        functions_fail e = rw (lower, sym types ∙ a-ok, sym exprs ∙ b-ok, sym inits ∙ c-ok, sym functions ∙ e)
+    module _ (b-ok : b ≡ true) (d : Bool) (functions : d ≡ functions_lower m.functions) where
+      pub functions_fail : d ≡ false → false ≡ lower m
+      functions_fail e = sym (opened ∙ rw (b-ok, sym functions ∙ e) refl)
 
-        pub last : d ≡ true → (r : Bool) → r ≡ entries_lower m.entries → r ≡ lower m
-        unfolding lower
-        last d-ok r e = rw (lower, sym types ∙ a-ok, sym exprs ∙ b-ok, sym inits ∙ c-ok, sym functions ∙ d-ok) e
+      pub last : d ≡ true → (r : Bool) → r ≡ entries_lower m.entries → r ≡ lower m
+      last d-ok r e = e ∙ sym (opened ∙ rw (b-ok, sym functions ∙ d-ok) refl)

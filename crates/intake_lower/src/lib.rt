@@ -1,17 +1,18 @@
-// Refusal 4: a base, a member, an operand or an init that is not lower than what names it. Flat passes over the words and the tags, linear in the
+// Refusal 4, BadReference: a base, a member, an operand or an init that is not lower than what names it. Flat passes over the words and the tags, linear in the
 // words. `count` is how many records have begun, so the record that is being read has the number count - 1.
 #![tactic(auto)]
 
 ghost use Rattle.std.specs.Prelude.{◌≡◌, ℕ, ◌+◌, ◌^◌, ◌≤◌, ◌<◌};
 ghost use Rattle.model.specs.Module.{Module, count_at};
-ghost use Rattle.model.specs.Taped.{Tape, Taped};
+ghost use Rattle.model.specs.Taped.{Taped};
 ghost use Rattle.model.specs.Between.{Stretch};
 ghost use Rattle.model.specs.Lower.{lower as lowerOf};
 ghost use Rattle.intake_lower.specs.Passes.{type_next, type_ok, expr_next, expr_ok, word_at, init_ok, Reaches, Passed};
 
 use base_classes::{CONSTANT, EXPR, EXPR_KIND, NAMED, OPT_EXPR, OVERRIDE, TYPE, TYPE_KIND};
 use base_views::{
-    CONSTANTS, ENTRIES, EXPRESSIONS, FUNCTIONS, Image, OVERRIDES, SPECIAL, TYPES, offset, start_of,
+    CONSTANTS, Cells, ENTRIES, EXPRESSIONS, FUNCTIONS, Image, OVERRIDES, SPECIAL, TYPES, offset,
+    start_of,
 };
 use base_words::Words;
 
@@ -84,24 +85,26 @@ fn init_ok(words: &Words, s: u8, w: u32, count: usize) -> bool
     }
 }
 
-// One pass over the words from `at` to `end`: `next` counts by the class of a word, and `ok` tests the word by the count.
+// One pass over the words from `at` to `end`: `next` counts by the class of a word, and `ok` tests the word by the count. The stretch is two numbers with a clause: a
+// struct for this one contract would be made at four calls.
 fn pass<N: Fn(u8, usize) -> usize, K: Fn(u8, u32, usize) -> bool>(
-    image: Image,
+    cells: Cells,
     at: usize,
     end: usize,
     next: N,
     ok: K,
 ) -> bool
-    requires stretch { Stretch image.words.now image.tags.now at end }
+    requires stretch { Stretch cells.words.now cells.tags.now at end }
     requires counts { (s n : ℕ) → s < 256 → n < 16384 → N.pre next s n }
     requires grows { (s n r : ℕ) → s < 256 → n < 16384 → N.post next s n r → r ≤ n + 1 }
     requires tests { (s w n : ℕ) → s < 256 → w < 2 ^ 32 → n ≤ 16384 → K.pre ok s w n }
-    ensures { Passed (N.post next) (K.post ok) result image.entry.words.now image.entry.tags.now at end }
+    ensures { Passed (N.post next) (K.post ok) result cells.entry.words.now cells.entry.tags.now at end }
 {
     let mut count = 0;
+    // A loop: each turn writes `count`, and the closure of an `all` would have to say again what `next` and `ok` require.
     for j in at..end {
-        count = next(image.tags[j], count);
-        if !ok(image.tags[j], image.words[j], count) {
+        count = next(cells.tags[j], count);
+        if !ok(cells.tags[j], cells.words[j], count) {
             return false;
         }
     }
@@ -110,7 +113,6 @@ fn pass<N: Fn(u8, usize) -> usize, K: Fn(u8, u32, usize) -> bool>(
 
 // Whether every reference of the image is lower.
 pub fn lower(image: Image) -> bool
-    requires { Tape image.words.now image.tags.now image.n }
     ensures { (m : Module) → Taped image.entry.words.now image.entry.tags.now image.entry.n m → result ≡ lowerOf m }
 {
     let exprs = offset(image.words, EXPRESSIONS);
@@ -119,15 +121,11 @@ pub fn lower(image: Image) -> bool
     let types = offset(image.words, TYPES);
     let constants = offset(image.words, CONSTANTS);
     let special = offset(image.words, SPECIAL);
-    pass(image, types, constants, type_next, type_ok)
-        && pass(image, exprs, functions, expr_next, expr_ok)
-        && pass(
-            image,
-            exprs,
-            functions,
-            expr_next,
-            |s, w, count| init_ok(image.words, s, w, count),
-        )
-        && pass(image, functions, entries, expr_next, expr_ok)
-        && pass(image, entries, special, expr_next, expr_ok)
+    let cells = image.cells();
+    pass(cells, types, constants, type_next, type_ok)
+        && pass(cells, exprs, functions, expr_next, |s, w, count| {
+            expr_ok(s, w, count) && init_ok(image.words, s, w, count)
+        })
+        && pass(cells, functions, entries, expr_next, expr_ok)
+        && pass(cells, entries, special, expr_next, expr_ok)
 }

@@ -8,9 +8,11 @@ use Rattle.model.specs.Table.{NAME, NAMED-EXPR, NAMED}
 unfoldable pub unnamed : ℕ → ℕ → ℕ → Bool
 unnamed b s w = eqb b NAMED-EXPR && (eqb s NAME && eqb w 0)
 
+-- no expression has a mark
 abbrev pub NONE : List Bool
 NONE = replicate 1024 false
 
+-- every named expression has a name, and none is named twice in a function: b is the class of the cell before, and the marks are those of the expressions that are named so far
 unfoldable pub marking : Cells → ℕ → List Bool → Bool
 marking [] b ms = true
 marking (c ∷ cs) b ms =

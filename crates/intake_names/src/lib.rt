@@ -1,4 +1,4 @@
-// Refusal 5: what has to have a name and has none, and what is equal and has to differ.
+// Refusal 5, BadNames: what has to have a name and has none, and what is equal and has to differ.
 // Cost: the named expressions are one pass, with marks; what has to differ is looked at by the crate intake_distinct.
 #![tactic(auto)]
 
@@ -12,7 +12,7 @@ ghost use Rattle.intake_distinct.specs.Listed.{listing, number_at, Placed};
 ghost use Rattle.intake_names.specs.Passes.{unnamed as unnamedOf, NONE, marking, Small};
 
 use base_classes::{NAME, NAMED, NAMED_EXPR};
-use base_views::{ENTRIES, FUNCTIONS, Image, SPECIAL, count, offset};
+use base_views::{Cells, ENTRIES, FUNCTIONS, Image, SPECIAL, count, offset};
 use base_words::Words;
 use intake_distinct::{differ, distinct, number};
 
@@ -32,17 +32,19 @@ fn unnamed(before: u8, s: u8, w: u32) -> bool
     before == NAMED_EXPR && s == NAME && w == 0
 }
 
-// Whether each named expression has a name, and none is named twice in a function.
-fn expressions(image: Image, at: usize, end: usize) -> bool
-    requires stretch { Stretch image.words.now image.tags.now at end }
-    requires each { Each Small (between image.tags.now image.words.now at end) }
-    ensures { result ≡ marking (between image.entry.tags.now image.entry.words.now at end) 0 NONE }
+// Whether each named expression has a name, and none is named twice in a function. The stretch is two numbers with a clause: a struct for this one contract would be
+// made at both calls.
+fn expressions(cells: Cells, at: usize, end: usize) -> bool
+    requires stretch { Stretch cells.words.now cells.tags.now at end }
+    requires each { Each Small (between cells.tags.now cells.words.now at end) }
+    ensures { result ≡ marking (between cells.entry.tags.now cells.entry.words.now at end) 0 NONE }
 {
     let mut marks = [false; 1024];
     let mut before = 0;
+    // A loop: each turn writes `marks` and `before`, and the closure of an `all` would have to say again that a named number has a mark.
     for j in at..end {
-        let s = image.tags[j];
-        let w = image.words[j];
+        let s = cells.tags[j];
+        let w = cells.words[j];
         if unnamed(before, s, w) {
             return false;
         }
@@ -68,10 +70,11 @@ pub fn named(image: Image) -> bool
     let functions = offset(image.words, FUNCTIONS);
     let entries = offset(image.words, ENTRIES);
     let special = offset(image.words, SPECIAL);
+    let cells = image.cells();
     present(image.words, FUNCTIONS)
         && present(image.words, ENTRIES)
-        && expressions(image, functions, entries)
-        && expressions(image, entries, special)
+        && expressions(cells, functions, entries)
+        && expressions(cells, entries, special)
         && differ(image.words)
         && distinct(image.words, FUNCTIONS)
         && distinct(image.words, SPECIAL)

@@ -1,7 +1,6 @@
 -- A function in words and tags, and the loops over table functions and entry points.
 use denote.Ref.{MutBor}
 use mathlib.Core.Path.{◌≡◌, refl, sym, ap, ◌∙◌}
-use mathlib.Core.Logic.{⊎_elim}
 use mathlib.Core.Bool.{Bool, true, false, ◌&&◌, not}
 use mathlib.Core.Option.{some}
 use mathlib.Core.List.{List, []}
@@ -24,8 +23,11 @@ use Rattle.theory_image.specs.Views.{sees_entry}
 use Rattle.theory_image.specs.FunctionViews.{arguments_count, locals_count, exprs_count, stands-end, taped_part, taped_function, taped_entry, taped_functions, taped_entries}
 use Rattle.theory_image.specs.Betweens.{held-between}
 use Rattle.model.specs.Between.{Long}
+use Rattle.intake_ranges.specs.declared.Bounds as code
 use Rattle.intake_ranges.specs.Ranges.{table, headed, owned, FunctionInRangeEnsures, Owned}
-use Rattle.intake_numbers.specs.Passes.{TestEnsures, Tabled, Frame, Framed, Sound, Loose, Loosely, Heads, Tests, Passed, done, fails, next, Sectioned, tables_fine, kinds_fine, functions_fine, entries_fine}
+use Rattle.intake_numbers.specs.declared.FunctionTable.{FunctionTable}
+use Rattle.intake_numbers.specs.declared.FunctionTable.TheVariants.{Functions, Entries}
+use Rattle.intake_numbers.specs.Passes.{TestEnsures, Tabled, Frame, Framed, Sound, Loose, Loosely, Tests, Passed, done, fails, next, section_of, head_of, fine_of, tables_fine, kinds_fine, functions_fine, entries_fine}
 use Rattle.intake_initialisers.specs.Lists.{Lists, Listed, Initialised}
 use Rattle.intake_numbers.proofs.Tabling.{and_next, taped_long, cells_few, headed_is}
 
@@ -189,65 +191,61 @@ pub entries_in : (words : List ℕ) (count j : ℕ) → Word count (count_at 7 w
 entries_in words count j is h = omega (arith, is.0)
 
 -- a call is a test of the record whose places it is told
-pub tested : {S : Type 0} {post : MutBor S → ℕ → ℕ → ℕ → Bool → MutBor S → Type 0} {words : List ℕ} {k head i at end : ℕ} (shown left : MutBor S) {r b : Bool} → post shown at (at + head) end r left → at ≡ record_at k i words → end ≡ record_end k i words → r ≡ b
-    → Tests post words k head i shown.now b left.now
-tested shown left p at-is end_is is = record { shown = shown; shows = refl; left = left; met = rw (at-is, end_is, is) at p; leaves = refl }
+pub tested : {S : Type 0} {post : MutBor S → ℕ → ℕ → ℕ → Bool → MutBor S → Type 0} {words : List ℕ} {tb : FunctionTable} {i at head end : ℕ} (shown left : MutBor S) {r b : Bool} (k : ℕ) → k ≡ section_of tb → post shown at (at + head) end r left → at ≡ record_at k i words → head ≡ head_of tb → end ≡ record_end k i words → r ≡ b
+    → Tests post words tb i shown.now b left.now
+tested shown left k k_is p at-is head_is end_is is = record { shown = shown; shows = refl; left = left; met = rw (at-is, head_is, end_is, is, k_is) at p; leaves = refl }
 
--- either of them, as the code goes over section k
-pub data InSection (words tags : List ℕ) (n : ℕ) (t₀ : List ℕ) (j : ℕ) (t : List ℕ) : ℕ → ℕ → Type 0 where
-  in_functions : InFunctions words tags n t₀ j t → InSection words tags n t₀ j t 6 0
-  in_entries : InEntries words tags n t₀ j t → InSection words tags n t₀ j t 7 7
+pub table_in : (words : List ℕ) (tb : FunctionTable) (k count i : ℕ) → k ≡ section_of tb → Word count (count_at k words) → i < count → i < count_at (section_of tb) words
+table_in words tb k count i k_is is h = let l : i < count_at k words = omega (arith, h, is.0) in rw k_is at l
 
-functions_only : {r : Bool} {t₁ words tags : List ℕ} {n : ℕ} {t : List ℕ} → Loosely r t₁ words tags n t functions_fine → Sectioned r 6 t₁ words tags n t
-functions_only l = record { functions = λ p. l; entries = λ p. absurd (omega (arith, p)) }
+pub table_out : (words : List ℕ) (tb : FunctionTable) (k count i : ℕ) → k ≡ section_of tb → Word count (count_at k words) → count ≤ i → count_at (section_of tb) words ≤ i
+table_out words tb k count i k_is is h = let l : count_at k words ≤ i = omega (arith, h, is.0) in rw k_is at l
 
-entries_only : {r : Bool} {t₁ words tags : List ℕ} {n : ℕ} {t : List ℕ} → Loosely r t₁ words tags n t entries_fine → Sectioned r 7 t₁ words tags n t
-entries_only l = record { functions = λ p. absurd (omega (arith, p)); entries = λ p. l }
+-- either of them, as the code goes over a table
+abbrev pub InTable : FunctionTable → List ℕ → List ℕ → ℕ → List ℕ → ℕ → List ℕ → Type 0
+InTable Functions = InFunctions
+InTable Entries = InEntries
 
 -- their functions stand there
-pub framed_at : (words tags : List ℕ) (n : ℕ) → Tape words tags n → (k head : ℕ) → Heads k head → (i : ℕ) → i < count_at k words → Framed words tags (record_at k i words) (record_at k i words + head) (record_end k i words)
-framed_at words tags n tape k head =
-    ⊎_elim
-    (λ p. rw (p.0, p.1) λ i l. let z : record_at 6 i words + 0 ≡ record_at 6 i words = omega arith in rw z (looping_framed 6 _ _ _ _ _ words tags n (framing_functions words tags n) i l tape))
-    (λ p. rw (p.0, p.1) λ i l. looping_framed 7 _ _ _ _ _ words tags n (framing_entries words tags n) i l tape)
+pub framed_at : (words tags : List ℕ) (n : ℕ) → Tape words tags n → (tb : FunctionTable) (i : ℕ) → i < count_at (section_of tb) words → Framed words tags (record_at (section_of tb) i words) (record_at (section_of tb) i words + head_of tb) (record_end (section_of tb) i words)
+framed_at words tags n tape Functions i l = let z : record_at 6 i words + 0 ≡ record_at 6 i words = omega arith in rw z (looping_framed 6 _ _ _ _ _ words tags n (framing_functions words tags n) i l tape)
+framed_at words tags n tape Entries i l = looping_framed 7 _ _ _ _ _ words tags n (framing_entries words tags n) i l tape
 
-pub framed_small : (words tags : List ℕ) (n : ℕ) → Tape words tags n → (k head : ℕ) → Heads k head → (i : ℕ) → i < count_at k words → record_at k i words + head ≤ 16384
-framed_small words tags n tape k head h i l =
-    let p = framed_at words tags n tape k head h i l in
-    omega (arith, p.frame.own.part.rising, function_small words tags (record_at k i words) (record_at k i words + head) (record_end k i words) p)
+pub framed_small : (words tags : List ℕ) (n : ℕ) → Tape words tags n → (tb : FunctionTable) (i : ℕ) → i < count_at (section_of tb) words → (k at head : ℕ) → k ≡ section_of tb → at ≡ record_at k i words → head ≡ head_of tb → at + head ≤ 16384
+framed_small words tags n tape tb i l k at head k_is at_is head_is =
+    let p = framed_at words tags n tape tb i l in
+    let q : record_at (section_of tb) i words + head_of tb ≤ 16384 = omega (arith, p.frame.own.part.rising, function_small words tags (record_at (section_of tb) i words) (record_at (section_of tb) i words + head_of tb) (record_end (section_of tb) i words) p) in
+    rw (at_is, head_is, k_is) q
 
 module _ (words tags : List ℕ) (n : ℕ) (t₀ : List ℕ) where
-  pub section_begin : (k head : ℕ) → Heads k head → InSection words tags n t₀ 0 t₀ k head
-  section_begin k head h =
-      ⊎_elim
-      (λ p. rw (p.0, p.1) (in_functions (looping-begin 6 _ _ _ _ _ words tags n (framing_functions words tags n) t₀)))
-      (λ p. rw (p.0, p.1) (in_entries (looping-begin 7 _ _ _ _ _ words tags n (framing_entries words tags n) t₀)))
-      h
+  pub table_begin : (tb : FunctionTable) → InTable tb words tags n t₀ 0 t₀
+  table_begin Functions = looping-begin 6 _ _ _ _ _ words tags n (framing_functions words tags n) t₀
+  table_begin Entries = looping-begin 7 _ _ _ _ _ words tags n (framing_entries words tags n) t₀
 
   module _ (j : ℕ) (t : List ℕ) where
-    pub section_done : (k head : ℕ) → InSection words tags n t₀ j t k head → count_at k words ≤ j → Sectioned true k t words tags n t₀
+    table_done : (tb : FunctionTable) → InTable tb words tags n t₀ j t → count_at (section_of tb) words ≤ j → Loosely true t words tags n t₀ (fine_of tb)
     unfolding functions_fine entries_fine
-    section_done _ _ (in_functions inv) h = functions_only (looping_done 6 _ _ _ _ _ words tags n (framing_functions words tags n) t₀ j t inv h)
-    section_done _ _ (in_entries inv) h = entries_only (looping_done 7 _ _ _ _ _ words tags n (framing_entries words tags n) t₀ j t inv h)
+    table_done Functions inv h = looping_done 6 _ _ _ _ _ words tags n (framing_functions words tags n) t₀ j t inv h
+    table_done Entries inv h = looping_done 7 _ _ _ _ _ words tags n (framing_entries words tags n) t₀ j t inv h
 
     module _ (r : Bool) (t₁ : List ℕ) where
-      over_there : (k head : ℕ) → InSection words tags n t₀ j t k head → j < count_at k words → Sound r t₁ t words tags (record_at k j words) (record_at k j words + head) (record_end k j words) → not r ≡ true → Sectioned false k t₁ words tags n t₀
+      over_there : (tb : FunctionTable) → InTable tb words tags n t₀ j t → j < count_at (section_of tb) words → Sound r t₁ t words tags (record_at (section_of tb) j words) (record_at (section_of tb) j words + head_of tb) (record_end (section_of tb) j words) → not r ≡ true → Loosely false t₁ words tags n t₀ (fine_of tb)
       unfolding functions_fine entries_fine
-      over_there _ _ (in_functions inv) h got q = let z : record_at 6 j words + 0 ≡ record_at 6 j words = omega arith in functions_only (looping_over 6 _ _ _ _ _ words tags n (framing_functions words tags n) t₀ j t inv h r t₁ (rw z at got) q)
-      over_there _ _ (in_entries inv) h got q = entries_only (looping_over 7 _ _ _ _ _ words tags n (framing_entries words tags n) t₀ j t inv h r t₁ got q)
+      over_there Functions inv h got q = let z : record_at 6 j words + 0 ≡ record_at 6 j words = omega arith in looping_over 6 _ _ _ _ _ words tags n (framing_functions words tags n) t₀ j t inv h r t₁ (rw z at got) q
+      over_there Entries inv h got q = looping_over 7 _ _ _ _ _ words tags n (framing_entries words tags n) t₀ j t inv h r t₁ got q
 
-      next_there : (k head : ℕ) → InSection words tags n t₀ j t k head → j < count_at k words → Sound r t₁ t words tags (record_at k j words) (record_at k j words + head) (record_end k j words) → not r ≡ false → InSection words tags n t₀ (j + 1) t₁ k head
-      next_there _ _ (in_functions inv) h got q = let z : record_at 6 j words + 0 ≡ record_at 6 j words = omega arith in in_functions (looping-next 6 _ _ _ _ _ words tags n (framing_functions words tags n) t₀ j t inv h r t₁ (rw z at got) q)
-      next_there _ _ (in_entries inv) h got q = in_entries (looping-next 7 _ _ _ _ _ words tags n (framing_entries words tags n) t₀ j t inv h r t₁ got q)
+      next_there : (tb : FunctionTable) → InTable tb words tags n t₀ j t → j < count_at (section_of tb) words → Sound r t₁ t words tags (record_at (section_of tb) j words) (record_at (section_of tb) j words + head_of tb) (record_end (section_of tb) j words) → not r ≡ false → InTable tb words tags n t₀ (j + 1) t₁
+      next_there Functions inv h got q = let z : record_at 6 j words + 0 ≡ record_at 6 j words = omega arith in looping-next 6 _ _ _ _ _ words tags n (framing_functions words tags n) t₀ j t inv h r t₁ (rw z at got) q
+      next_there Entries inv h got q = looping-next 7 _ _ _ _ _ words tags n (framing_entries words tags n) t₀ j t inv h r t₁ got q
 
   -- one after the other, from record j on
-  pub passed_section : {post : MutBor (List ℕ) → ℕ → ℕ → ℕ → Bool → MutBor (List ℕ) → Type 0} {k head j : ℕ} {t t₁ : List ℕ} {r : Bool}
-      → Passed post words k head j t r t₁ → InSection words tags n t₀ j t k head
-      → ((i : ℕ) (t t₁ : List ℕ) (r : Bool) → i < count_at k words → Tests post words k head i t r t₁ → Sound r t₁ t words tags (record_at k i words) (record_at k i words + head) (record_end k i words))
-      → Sectioned r k t₁ words tags n t₀
-  passed_section {k = k} {head} {j} {t} (done h) inv tests = section_done j t k head inv h
-  passed_section {k = k} {head} {j} {t} {t₁} (fails h p) inv tests = over_there j t false t₁ k head inv h (tests j t t₁ false h p) refl
-  passed_section {k = k} {head} {j} {t} (next {s₁ = t₁} h p q) inv tests = passed_section q (next_there j t true t₁ k head inv h (tests j t t₁ true h p) refl) tests
+  pub passed_table : {post : MutBor code.Bounds → ℕ → ℕ → ℕ → Bool → MutBor code.Bounds → Type 0} {tb : FunctionTable} {j : ℕ} {t t₁ : code.Bounds} {r : Bool}
+      → Passed post words tb j t r t₁ → InTable tb words tags n t₀ j t.below
+      → ((i : ℕ) (t t₁ : code.Bounds) (r : Bool) → i < count_at (section_of tb) words → Tests post words tb i t r t₁ → Sound r t₁.below t.below words tags (record_at (section_of tb) i words) (record_at (section_of tb) i words + head_of tb) (record_end (section_of tb) i words))
+      → Loosely r t₁.below words tags n t₀ (fine_of tb)
+  passed_table {tb = tb} {j} {t} (done h) inv tests = table_done j t.below tb inv h
+  passed_table {tb = tb} {j} {t} {t₁} (fails h p) inv tests = over_there j t.below false t₁.below tb inv h (tests j t t₁ false h p) refl
+  passed_table {tb = tb} {j} {t} (next {s₁ = t₁} h p q) inv tests = passed_table q (next_there j t.below true t₁.below tb inv h (tests j t t₁ true h p) refl) tests
 
 -- ---- the whole
 last-first : (k f e r p : Bool) → (k && (f && (e && (r && p)))) ≡ ((r && p) && (k && (f && e)))

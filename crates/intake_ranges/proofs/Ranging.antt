@@ -14,7 +14,7 @@ use Rattle.model.specs.Numbers.{Bounds, caps, bound, below, within, rising, orde
 use Rattle.model.specs.Between.{between, Long}
 use Rattle.theory_image.specs.Betweens.{between_none, between_cons}
 use Rattle.std.specs.List.{list_all, range_with_len}
-use Rattle.intake_ranges.specs.Ranges.{cap, up_to, table, codes, headed, owned, Owned}
+use Rattle.intake_ranges.specs.Ranges.{cap, up_to, table, codes, headed, owned, with_own, Owned}
 
 -- ---- the table
 map_up_to : (f : ℕ → ℕ) (n k s : ℕ) → s < n → get_or (map f (up_to k n)) s 0 ≡ f (k + s)
@@ -34,21 +34,21 @@ cap-below (some n) w h = refl
 
 -- ---- each word in turn
 -- the table is that of the bounds b; a word has 32 bits, and a class 8
-module _ (words tags t : List ℕ) (b : Bounds) (is : t ≡ table b) (low : (i : ℕ) → get_or words i 0 < 2 ^ 32) (few : (i : ℕ) → get_or tags i 0 < 256) (end : ℕ) (long : Long words tags) (ok : end ≤ 16384) where
-  -- word i as the code tests it, and with Emit's start
+pub tested : (words tags t : List ℕ) (b : Bounds) → t ≡ table b → (i : ℕ) → get_or words i 0 < 2 ^ 32 → get_or tags i 0 < 256 → ltb (get_or words i 0) (get_or t (get_or tags i 0) 0) ≡ below (bound b (get_or tags i 0)) (get_or words i 0)
+tested words tags t b is i low few = ap (ltb (get_or words i 0)) (ap (λ l. get_or l (get_or tags i 0) 0) is ∙ table_at b (get_or tags i 0) few) ∙ cap-below (bound b (get_or tags i 0)) (get_or words i 0) low
+
+module _ (words tags : List ℕ) (b : Bounds) (end : ℕ) (long : Long words tags) (ok : end ≤ 16384) where
+  -- the test of word i, and that of Emit's start
   abbrev pub test : ℕ → Bool
-  test i = ltb (get_or words i 0) (get_or t (get_or tags i 0) 0)
+  test i = below (bound b (get_or tags i 0)) (get_or words i 0)
 
   abbrev pub emit : ℕ → Bool
   emit i = rising (get_or tags i 0, get_or words i 0) (between tags words (i + 1) end)
 
-  tested : (i : ℕ) → test i ≡ below (bound b (get_or tags i 0)) (get_or words i 0)
-  tested i = ap (ltb (get_or words i 0)) (ap (λ l. get_or l (get_or tags i 0) 0) is ∙ table_at b (get_or tags i 0) (few i)) ∙ cap-below (bound b (get_or tags i 0)) (get_or words i 0) (low i)
-
   within_from : (n i : ℕ) → i + n ≡ end → list_all test (range_with_len i n) ≡ within b (between tags words i end)
   unfolding within
   within_from zero i h = sym (ap (within b) (between_none tags words i end (omega arith)))
-  within_from (suc n) i h = rw (tested i, between_cons tags words i end (omega arith) long ok) (ap (below (bound b (get_or tags i 0)) (get_or words i 0) &&◌) (within_from n (i + 1) (omega arith)))
+  within_from (suc n) i h = rw (between_cons tags words i end (omega arith) long ok) (ap (below (bound b (get_or tags i 0)) (get_or words i 0) &&◌) (within_from n (i + 1) (omega arith)))
 
   swap : (p q x y : Bool) → (p && q) && (x && y) ≡ (p && x) && (q && y)
   swap true true x y = refl
@@ -60,7 +60,7 @@ module _ (words tags t : List ℕ) (b : Bounds) (is : t ≡ table b) (low : (i :
   unfolding within ordered
   ordered_from zero i h = sym (ap (λ cs. within b cs && ordered cs) (between_none tags words i end (omega arith)))
   ordered_from (suc n) i h =
-      rw (tested i, between_cons tags words i end (omega arith) long ok)
+      rw (between_cons tags words i end (omega arith) long ok)
       (ap ((below (bound b (get_or tags i 0)) (get_or words i 0) && emit i) &&◌) (ordered_from n (i + 1) (omega arith))
       ∙ swap (below (bound b (get_or tags i 0)) (get_or words i 0)) (emit i) (within b (between tags words (i + 1) end)) (ordered (between tags words (i + 1) end)))
 
@@ -72,13 +72,12 @@ module _ (words tags t : List ℕ) (b : Bounds) (is : t ≡ table b) (low : (i :
     all_ordered = ordered_from (end - at) at (omega arith)
 
 -- ---- the counts put in
-pub outside_is : (words t : List ℕ) → t ≡ codes → (a b c d e f g : ℕ) → a ≡ count_at 0 words → b ≡ count_at 1 words → f ≡ count_at 5 words → g ≡ count_at 6 words → c ≡ count_at 2 words → d ≡ count_at 3 words → e ≡ count_at 4 words
-    → set (set (set (set (set (set (set (set (set (set (set (set (set (set (set (set (set (set (set t 83 (a + 1)) 84 b) 85 (b + 1)) 86 c) 87 d) 88 e) 89 f) 90 (f + 1)) 91 g) 92 g) 93 f) 94 (f + 1)) 95 0) 96 0) 98 (f + 1)) 99 f) 100 (f + 1)) 101 f) 102 (f + 1)
-    ≡ table (headed words)
-unfolding codes up_to table cap bound caps headed
-outside_is words t q a b c d e f g qa qb qf qg qc qd qe = rw (q, add-one a, add-one b, add-one f, qa, qb, qc, qd, qe, qf, qg)
+pub outside_is : (words t t₁ : List ℕ) → t ≡ codes → (a b c d e f g h : ℕ) → a ≡ count_at 0 words → b ≡ count_at 1 words → f ≡ count_at 5 words → g ≡ count_at 6 words → c ≡ count_at 2 words → d ≡ count_at 3 words → e ≡ count_at 4 words → h ≡ f
+    → t₁ ≡ with_own (set (set (set (set (set (set (set (set (set (set t 83 (a + 1)) 84 b) 85 (b + 1)) 86 c) 87 d) 88 e) 89 f) 90 (f + 1)) 91 g) 92 g) h 0 0
+    → t₁ ≡ table (headed words)
+unfolding codes up_to table cap bound caps headed with_own
+outside_is words t t₁ q a b c d e f g h qa qb qf qg qc qd qe qh is = is ∙ rw (q, qh, add-one a, add-one b, add-one f, qa, qb, qc, qd, qe, qf, qg)
 
-pub inside_is : (t : List ℕ) (e a l x y z : ℕ) → x ≡ e → y ≡ a → z ≡ l
-    → Owned (set (set (set (set (set (set (set (set (set t 93 x) 94 (x + 1)) 95 y) 96 z) 98 (x + 1)) 99 x) 100 (x + 1)) 101 x) 102 (x + 1)) t e a l
-unfolding up_to table cap bound caps owned
-inside_is t e a l x y z qx qy qz = record { same = λ b q. rw (q, add-one x, qx, qy, qz) }
+pub inside_is : (t t₁ : List ℕ) (e a l : ℕ) → t₁ ≡ with_own t e a l → Owned t₁ t e a l
+unfolding up_to table cap bound caps owned with_own
+inside_is t t₁ e a l is = record { same = λ b q. is ∙ rw (q, add-one e) }

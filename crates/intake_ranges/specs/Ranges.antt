@@ -1,11 +1,12 @@
 -- The table of bounds as the code has it, and what the passes over words and tags answer, in terms of the model's cells.
-use Rattle.std.specs.Prelude.{◌≡◌, Bool, ◌&&◌, List, [], ◌∷◌, ◌++◌, map, ℕ, zero, suc, ◌^◌, replicate}
+use Rattle.std.specs.Prelude.{◌≡◌, Bool, ◌&&◌, List, [], ◌∷◌, ◌++◌, map, slice_set, ℕ, zero, suc, ◌+◌, ◌^◌, replicate}
 use Rattle.std.proofs.Math.Option.{Option, none, some}
 use Rattle.model.specs.Module.{count_at}
 use Rattle.model.specs.Between.{between}
 use Rattle.model.specs.Numbers.{Bounds, bound, within, ordered}
 
 -- ---- the table of bounds: a word has 32 bits, so one that is free stays below 2 ^ 32
+-- what a word stays below whose bound is this, or which is free
 unfoldable pub cap : Option ℕ → ℕ
 cap none = 2 ^ 32
 cap (some n) = n
@@ -53,6 +54,7 @@ owned b e a l = record {
   locals = l;
 }
 
+-- each word from `at` to `end` is below the bound of its class
 pub record InRangeEnsures (r : Bool) (words tags t : List ℕ) (at end : ℕ) : Type 0 where
   pub same : (b : Bounds) → t ≡ table b → r ≡ within b (between tags words at end)
 
@@ -60,5 +62,10 @@ pub record InRangeEnsures (r : Bool) (words tags t : List ℕ) (at end : ℕ) : 
 pub record FunctionInRangeEnsures (r : Bool) (words tags t : List ℕ) (at end : ℕ) : Type 0 where
   pub same : (b : Bounds) → t ≡ table b → r ≡ within b (between tags words at end) && ordered (between tags words at end)
 
+-- the table with these bounds for what a function has of its own
+unfoldable pub with_own : List ℕ → ℕ → ℕ → ℕ → List ℕ
+with_own t e a l = slice_set (slice_set (slice_set (slice_set (slice_set (slice_set (slice_set (slice_set (slice_set t 93 e) 94 (e + 1)) 95 a) 96 l) 98 (e + 1)) 99 e) 100 (e + 1)) 101 e) 102 (e + 1)
+
+-- of a table of bounds the result is one, of the same bounds with these
 pub record Owned (t₁ t : List ℕ) (e a l : ℕ) : Type 0 where
   pub same : (b : Bounds) → t ≡ table b → t₁ ≡ table (owned b e a l)

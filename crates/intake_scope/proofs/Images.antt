@@ -1,6 +1,5 @@
 -- Every function and every entry point, one after the other: what is left from here is the whole.
 use denote.Ref.{MutBor}
-use mathlib.Core.Logic.{inl, inr}
 use mathlib.Core.Path.{◌≡◌, refl, sym, ap, ◌∙◌, subst}
 use mathlib.Core.Bool.{Bool, true, false, ◌&&◌}
 use mathlib.Core.List.{List, [], ◌∷◌}
@@ -23,9 +22,11 @@ use Rattle.model.specs.Initial.{initialised}
 use Rattle.model.specs.Numbers.{Bounds, caps, bound, below, within, ordered, every, outside, inside, sound}
 use Rattle.model.specs.Scope.{scoped, all_scoped, entries_scoped, in_scope}
 use Rattle.theory_image.specs.FunctionViews.{part_end}
-use Rattle.intake_numbers.specs.Passes.{TestEnsures, Frame, Heads, Tests, Passed, done, fails, next, tables_fine, kinds_fine, functions_fine, entries_fine}
+use Rattle.intake_numbers.specs.declared.FunctionTable.{FunctionTable}
+use Rattle.intake_numbers.specs.declared.FunctionTable.TheVariants.{Functions, Entries}
+use Rattle.intake_numbers.specs.Passes.{TestEnsures, Frame, Tests, Passed, done, fails, next, section_of, head_of, tables_fine, kinds_fine, functions_fine, entries_fine}
 use Rattle.intake_numbers.proofs.Framing.{no_function, no_entry, Framing, framing_functions, framing_entries, numbered_is}
-use Rattle.intake_scope.specs.Functions.{Stated, Scoped, InRange, functions_scoped, entry_points_scoped, Section, of_functions, of_entries, scoped_of}
+use Rattle.intake_scope.specs.Functions.{Stated, Scoped, InRange, functions_scoped, entry_points_scoped, scoped_of}
 use Rattle.intake_blocks.proofs.Trees.{Runs, runs_word}
 use Rattle.intake_scope.proofs.Whole.{part_runs}
 
@@ -140,9 +141,9 @@ InFunctions = Onward 6 (λ m. m.functions) (λ f. f) flat (λ p. p) no_function
 abbrev pub InEntries : List ℕ → List ℕ → ℕ → ℕ → Type 0
 InEntries = Onward 7 (λ m. m.entries) (λ e. e.function) flat_entry (λ p. p + 7) no_entry
 
-abbrev pub InSection : {k head : ℕ} → Section k head → List ℕ → List ℕ → ℕ → ℕ → Type 0
-InSection of_functions = InFunctions
-InSection of_entries = InEntries
+abbrev pub InTable : FunctionTable → List ℕ → List ℕ → ℕ → ℕ → Type 0
+InTable Functions = InFunctions
+InTable Entries = InEntries
 
 module _ (words tags : List ℕ) (n : ℕ) (nb : InRange words tags n) where
   functions_good : (m : Module) → Taped words tags n m → every (λ x. sound (outside m) x (flat x)) m.functions ≡ true
@@ -160,40 +161,36 @@ module _ (words tags : List ℕ) (n : ℕ) (nb : InRange words tags n) where
   entries_begin = onward_begin 7 _ _ _ _ _ words tags n (framing_entries words tags n)
 
   -- ---- either of them
-  pub section_heads : {k head : ℕ} → Section k head → Heads k head
-  section_heads of_functions = inl (refl, refl)
-  section_heads of_entries = inr (refl, refl)
-
-  pub section_begin : {k head : ℕ} (s : Section k head) → InSection s words tags n 0
-  section_begin of_functions = functions_begin
-  section_begin of_entries = entries_begin
+  pub table_begin : (s : FunctionTable) → InTable s words tags n 0
+  table_begin Functions = functions_begin
+  table_begin Entries = entries_begin
 
   module _ (i : ℕ) where
-    section_done : {k head : ℕ} (s : Section k head) → InSection s words tags n i → count_at k words ≤ i → TestEnsures true words tags n (scoped_of s)
-    section_done of_functions inv h = record { same = λ m tp. onward_done 6 _ _ _ _ _ words tags n (framing_functions words tags n) i inv h m tp ∙ all-every m.functions }
-    section_done of_entries inv h = record { same = λ m tp. onward_done 7 _ _ _ _ _ words tags n (framing_entries words tags n) i inv h m tp ∙ entries_every m.entries }
+    table_done : (s : FunctionTable) → InTable s words tags n i → count_at (section_of s) words ≤ i → TestEnsures true words tags n (scoped_of s)
+    table_done Functions inv h = record { same = λ m tp. onward_done 6 _ _ _ _ _ words tags n (framing_functions words tags n) i inv h m tp ∙ all-every m.functions }
+    table_done Entries inv h = record { same = λ m tp. onward_done 7 _ _ _ _ _ words tags n (framing_entries words tags n) i inv h m tp ∙ entries_every m.entries }
 
-    pub section_stated : {k head : ℕ} → Section k head → i < count_at k words → Tape words tags n → Stated words tags (record_at k i words) (record_at k i words + head) (record_end k i words)
-    section_stated of_functions h tape = let z : record_at 6 i words + 0 ≡ record_at 6 i words = omega arith in rw z (onward_stated 6 _ _ _ _ _ words tags n (framing_functions words tags n) i h functions_good (λ p. omega arith) tape)
-    section_stated of_entries h tape = onward_stated 7 _ _ _ _ _ words tags n (framing_entries words tags n) i h entries_good (λ p. omega arith) tape
+    pub table_stated : (s : FunctionTable) → i < count_at (section_of s) words → Tape words tags n → Stated words tags (record_at (section_of s) i words) (record_at (section_of s) i words + head_of s) (record_end (section_of s) i words)
+    table_stated Functions h tape = let z : record_at 6 i words + 0 ≡ record_at 6 i words = omega arith in rw z (onward_stated 6 _ _ _ _ _ words tags n (framing_functions words tags n) i h functions_good (λ p. omega arith) tape)
+    table_stated Entries h tape = onward_stated 7 _ _ _ _ _ words tags n (framing_entries words tags n) i h entries_good (λ p. omega arith) tape
 
     module _ (r : Bool) where
-      section_over : {k head : ℕ} (s : Section k head) → InSection s words tags n i → i < count_at k words → Scoped r words tags (record_at k i words) (record_at k i words + head) (record_end k i words) → r ≡ false → TestEnsures false words tags n (scoped_of s)
-      section_over of_functions inv h got q = let z : record_at 6 i words + 0 ≡ record_at 6 i words = omega arith in record { same = λ m tp. onward_over 6 _ _ _ _ _ words tags n (framing_functions words tags n) i inv h functions_good r (rw z at got) q m tp ∙ all-every m.functions }
-      section_over of_entries inv h got q = record { same = λ m tp. onward_over 7 _ _ _ _ _ words tags n (framing_entries words tags n) i inv h entries_good r got q m tp ∙ entries_every m.entries }
+      table_over : (s : FunctionTable) → InTable s words tags n i → i < count_at (section_of s) words → Scoped r words tags (record_at (section_of s) i words) (record_at (section_of s) i words + head_of s) (record_end (section_of s) i words) → r ≡ false → TestEnsures false words tags n (scoped_of s)
+      table_over Functions inv h got q = let z : record_at 6 i words + 0 ≡ record_at 6 i words = omega arith in record { same = λ m tp. onward_over 6 _ _ _ _ _ words tags n (framing_functions words tags n) i inv h functions_good r (rw z at got) q m tp ∙ all-every m.functions }
+      table_over Entries inv h got q = record { same = λ m tp. onward_over 7 _ _ _ _ _ words tags n (framing_entries words tags n) i inv h entries_good r got q m tp ∙ entries_every m.entries }
 
-      section_next : {k head : ℕ} (s : Section k head) → InSection s words tags n i → i < count_at k words → Scoped r words tags (record_at k i words) (record_at k i words + head) (record_end k i words) → r ≡ true → InSection s words tags n (i + 1)
-      section_next of_functions inv h got q = let z : record_at 6 i words + 0 ≡ record_at 6 i words = omega arith in onward_next 6 _ _ _ _ _ words tags n (framing_functions words tags n) i inv h functions_good r (rw z at got) q
-      section_next of_entries inv h got q = onward_next 7 _ _ _ _ _ words tags n (framing_entries words tags n) i inv h entries_good r got q
+      table_next : (s : FunctionTable) → InTable s words tags n i → i < count_at (section_of s) words → Scoped r words tags (record_at (section_of s) i words) (record_at (section_of s) i words + head_of s) (record_end (section_of s) i words) → r ≡ true → InTable s words tags n (i + 1)
+      table_next Functions inv h got q = let z : record_at 6 i words + 0 ≡ record_at 6 i words = omega arith in onward_next 6 _ _ _ _ _ words tags n (framing_functions words tags n) i inv h functions_good r (rw z at got) q
+      table_next Entries inv h got q = onward_next 7 _ _ _ _ _ words tags n (framing_entries words tags n) i inv h entries_good r got q
 
   -- one after the other, from record j on
-  pub passed_section : {S : Type 0} {post : MutBor S → ℕ → ℕ → ℕ → Bool → MutBor S → Type 0} {k head j : ℕ} {t t₁ : S} {r : Bool} (s : Section k head)
-      → Passed post words k head j t r t₁ → InSection s words tags n j
-      → ((i : ℕ) (t t₁ : S) (r : Bool) → i < count_at k words → Tests post words k head i t r t₁ → Scoped r words tags (record_at k i words) (record_at k i words + head) (record_end k i words))
+  pub passed_table : {S : Type 0} {post : MutBor S → ℕ → ℕ → ℕ → Bool → MutBor S → Type 0} (s : FunctionTable) {j : ℕ} {t t₁ : S} {r : Bool}
+      → Passed post words s j t r t₁ → InTable s words tags n j
+      → ((i : ℕ) (t t₁ : S) (r : Bool) → i < count_at (section_of s) words → Tests post words s i t r t₁ → Scoped r words tags (record_at (section_of s) i words) (record_at (section_of s) i words + head_of s) (record_end (section_of s) i words))
       → TestEnsures r words tags n (scoped_of s)
-  passed_section {j = j} s (done h) inv tests = section_done j s inv h
-  passed_section {j = j} {t} {t₁} s (fails h p) inv tests = section_over j false s inv h (tests j t t₁ false h p) refl
-  passed_section {j = j} {t} s (next {s₁ = t₁} h p q) inv tests = passed_section s q (section_next j true s inv h (tests j t t₁ true h p) refl) tests
+  passed_table s {j = j} (done h) inv tests = table_done j s inv h
+  passed_table s {j = j} {t} {t₁} (fails h p) inv tests = table_over j false s inv h (tests j t t₁ false h p) refl
+  passed_table s {j = j} {t} (next {s₁ = t₁} h p q) inv tests = passed_table s q (table_next j true s inv h (tests j t t₁ true h p) refl) tests
 
   module _ (a : Bool) (got : TestEnsures a words tags n functions_scoped) where
     pub image_functions : a ≡ false → TestEnsures false words tags n in_scope

@@ -7,11 +7,13 @@ use Rattle.model.specs.Taped.{Taped}
 use Rattle.model.specs.Initial.{initialised}
 use Rattle.model.specs.Numbers.{numbered}
 use Rattle.model.specs.Scope.{scoped, all_scoped, entries_scoped}
+use Rattle.intake_numbers.specs.declared.FunctionTable.{FunctionTable}
+use Rattle.intake_numbers.specs.declared.FunctionTable.TheVariants.{Functions, Entries}
 use Rattle.intake_numbers.specs.Passes.{Frame}
 use Rattle.intake_initialisers.specs.Lists.{Lists}
 use Rattle.intake_statements.specs.Tape.{Ends}
 
--- its lists of locals and expressions have their numbers at the words `locals` and `exprs`; a clause, since it has the function as a field
+-- its lists of locals and expressions have their numbers at the words `locals` and `exprs`. One private function asks this: a struct of its four values would be made once, in the call, and taken apart at once.
 pub record Known (words tags : List ℕ) (locals exprs end : ℕ) : Type 0 where
   pub function : Function
   pub lists : Lists words tags locals exprs end function
@@ -46,12 +48,7 @@ functions_scoped m = all_scoped m.functions
 abbrev pub entry_points_scoped : Module → Bool
 entry_points_scoped m = entries_scoped m.entries
 
--- the sections that have functions, and how many words a record has before its function
-pub data Section : ℕ → ℕ → Type 0 where
-  of_functions : Section 6 0
-  of_entries : Section 7 7
-
--- the test of a section
-abbrev pub scoped_of : {k head : ℕ} → Section k head → Module → Bool
-scoped_of of_functions = functions_scoped
-scoped_of of_entries = entry_points_scoped
+-- the test of a table
+abbrev pub scoped_of : FunctionTable → Module → Bool
+scoped_of Functions = functions_scoped
+scoped_of Entries = entry_points_scoped

@@ -2,3 +2,4 @@ pub mod Restated
 pub mod Leaves
 pub mod Scopes
 pub mod Results
+pub mod Laid

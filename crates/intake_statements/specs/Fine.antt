@@ -13,12 +13,15 @@ keep_all e = false
 unfoldable pub done_b : Block Range → List ℕ → List ℕ
 done_b b δ = add_e (evals_b (expand b keep_all)) δ
 
+-- the same after a statement
 unfoldable pub done_s : Stmt Range → List ℕ → List ℕ
 done_s s δ = add_e (evals_s (expand_s s keep_all)) δ
 
+-- the same after a case
 unfoldable pub done_k : Case Range → List ℕ → List ℕ
 done_k k δ = add_e (evals_k (expand_k k keep_all)) δ
 
+-- the same after cases
 unfoldable pub done_c : Cases Range → List ℕ → List ℕ
 done_c ks δ = add_e (evals_c (expand_c ks keep_all)) δ
 
@@ -36,6 +39,7 @@ module _ (xs : List Cells) (drop : ℕ → Bool) where
   unfoldable pub one_e : ℕ → List ℕ → List ℕ → Bool
   one_e e ρ δ = emitted_kind (kind_at xs e) && (not (has δ e) && (drop e || all_vis (standing xs) ρ (ops xs e)))
 
+  -- expressions of an Emit, one after the other
   unfoldable pub fine_e : List ℕ → List ℕ → List ℕ → Bool
   fine_e [] ρ δ = true
   fine_e (e ∷ es) ρ δ = one_e e ρ δ && fine_e es (next_e e ρ) (e ∷ δ)

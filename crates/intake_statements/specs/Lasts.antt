@@ -5,6 +5,8 @@ use Rattle.std.proofs.Math.Option.{Option, none, some}
 use Rattle.model.specs.Outcome.{Cells}
 use Rattle.model.specs.Operands.{ops_of, result_of, standing_kind, standing}
 use Rattle.model.specs.Scope.{in_range, live, has, add_e, add_opt, evals_opt, call_result, effect_result, all_vis}
+use Rattle.intake_statements.specs.declared.expressions.Places.{Places}
+use Rattle.intake_statements.specs.declared.expressions.Expressions.{Expressions}
 use Rattle.intake_statements.specs.Fine.{fresh, one_e, next_e, fine_e}
 use Rattle.intake_statements.specs.Tape.{cells_in, exprs_of, marks}
 
@@ -79,3 +81,28 @@ pub record FoundO (ws ts st : List ℕ) (count at stop keep : ℕ) (u₀ u : Lis
 pub record FoundL (ws ts st : List ℕ) (count at stop keep : ℕ) (u₀ u : List ℕ) (r : Bool) : Type 0 where
   pub found : (ρ δ : List ℕ) → Scope count at keep ρ δ u₀
       → Tells count at keep u₀ u r (all_vis (standing (exprs_of ws ts st count)) ρ (ops_of (cells_in ws ts (at + 4) stop)) && result_ok ws ts st count at stop δ) (add_opt (result_in ws ts at stop) ρ) (add_e (evals_opt (result_in ws ts at stop)) δ)
+
+-- ---- the same of expressions as the code has them
+-- whether an expression is in scope at the word `at`
+abbrev pub seen_at : Places → List ℕ → ℕ → ℕ → Bool
+seen_at x u at = visible_at x.cells.words.now x.starts.now u x.count at
+
+-- expression e of an Emit
+abbrev pub EvaluatedEnsures : Expressions → ℕ → ℕ → ℕ → List ℕ → List ℕ → Bool → Type 0
+EvaluatedEnsures x = let p = x.places in FoundE p.cells.words.now p.cells.tags.now p.starts.now x.initial.now p.count
+
+-- the Emit at the word `at`
+abbrev pub EmitEnsures : Expressions → ℕ → ℕ → List ℕ → List ℕ → Bool → Type 0
+EmitEnsures x at keep = let p = x.places in FoundR p.cells.words.now p.cells.tags.now p.starts.now x.initial.now p.count at keep (get_or p.cells.words.now (at + 4) 0) (get_or p.cells.words.now (at + 5) 0)
+
+-- whether expression e may be the result of the statement at the word `at`
+abbrev pub may_be_result : Places → ℕ → ℕ → Bool
+may_be_result x at e = fits_result (exprs_of x.cells.words.now x.cells.tags.now x.starts.now x.count) (get_or x.cells.words.now (at + 1) 0) (get_or x.cells.words.now (at + 4) 0) (some e)
+
+-- the result of the statement from `at` to `stop`
+abbrev pub ResultEnsures : Places → ℕ → ℕ → ℕ → List ℕ → List ℕ → Bool → Type 0
+ResultEnsures x = FoundO x.cells.words.now x.cells.tags.now x.starts.now x.count
+
+-- the whole of it
+abbrev pub SimpleEnsures : Places → ℕ → ℕ → ℕ → List ℕ → List ℕ → Bool → Type 0
+SimpleEnsures x = FoundL x.cells.words.now x.cells.tags.now x.starts.now x.count

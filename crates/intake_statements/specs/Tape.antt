@@ -1,7 +1,7 @@
 -- Words and tags seen as cells, and the trees in them: a block or a statement from one word to another, the table of a function's expressions.
 use Rattle.std.specs.Prelude.{◌≡◌, Bool, false, ◌&&◌, not, List, [], ◌∷◌, map, ℕ, zero, suc, ◌+◌, ◌-◌, ◌≤◌, ◌<◌, length, get_or}
 use Rattle.model.specs.Outcome.{Cells, word, Outcome, fits, misfit, unknown}
-use Rattle.model.specs.Table.{expression_row, TO}
+use Rattle.model.specs.Table.{expression_row, TO, run}
 use Rattle.model.specs.Tree.{Stmt, stmt, kill, Block, end, Range, flat_s, flat_block, statement, block_at, DEPTH}
 use Rattle.model.specs.Operands.{standing}
 use Rattle.model.specs.Carry.{Lays, OkS, OkB}
@@ -17,6 +17,7 @@ unfoldable pub cells_in : List ℕ → List ℕ → ℕ → ℕ → Cells
 cells_in ws ts from to = cells_from (to - from) ws ts from
 
 -- ---- trees
+-- what was read, or d where nothing was
 unfoldable pub got : {A : Type 0} → A → Outcome A → A
 got d (fits a ws) = a
 got d misfit = d
@@ -49,6 +50,7 @@ pub record Ends (ws ts : List ℕ) (count at fin : ℕ) : Type 0 where
   pub low : (i : ℕ) → at ≤ i → i < fin → get_or ts i 0 ≡ TO → get_or ws i 0 ≤ count
 
 -- ---- the way through a block, by the lengths of its statements
+-- n statements lie one after the other from the word i on, inside the words
 pub data Steps (ws : List ℕ) : ℕ → ℕ → Type 0 where
   steps-none : {i : ℕ} → Steps ws 0 i
   steps_next : {n i : ℕ} → i < 16384 → i + get_or ws i 0 ≤ 16384 → Steps ws n (i + get_or ws i 0) → Steps ws (suc n) i
@@ -82,6 +84,10 @@ pub record Placed (st : List ℕ) (count : ℕ) : Type 0 where
 pub record Exprs (ws ts st : List ℕ) (count : ℕ) : Type 0 where
   pub placed : Placed st count
   pub lays : (e : ℕ) → e < count → Lays expression_row (record_of ws ts st e)
+
+-- what each is read as, by the row of an expression, is itself: as an equation what `Exprs` says of the rows (proofs/Legible.antt), so that a type can say it
+pub record ReadBack (ws ts st : List ℕ) (count : ℕ) : Type 0 where
+  pub same : (e : ℕ) → e < count → got [] (run (map word (record_of ws ts st e)) expression_row) ≡ record_of ws ts st e
 
 -- the initialiser expressions: those that are marked and not standing
 unfoldable pub marks : List ℕ → List ℕ → List ℕ → ℕ → List Bool → ℕ → Bool

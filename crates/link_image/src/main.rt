@@ -1,5 +1,5 @@
 // Reads an image on standard input, links it, and writes the linked image to standard output. A refusal or a failed read is one line on standard error,
-// and nothing is written. Input longer than an image may be is refused 1 and not cut: the buffer holds one byte more.
+// and nothing is written. Input longer than an image may be is refused for its size and not cut: the buffer holds one byte more.
 #![tactic(auto)]
 
 // The linked image, or why there is none.

@@ -47,6 +47,7 @@ pub record Linkable (words tags : List ℕ) (n : ℕ) (order output : List ℕ) 
   pub linking : Linking (take n words) (length output) (mod_of words n)
   pub sequence : Sequence words n order (count_at 6 words)
 
+-- the module that the words hold, linked in that order: how many bytes it has, which are at the start of the output
 pub record LinkInOrderEnsures (words : List ℕ) (n : ℕ) (order output₀ : List ℕ) (r : ℕ) (output : List ℕ) : Type 0 where
   pub answer : r ≡ link_answer (done (write (link_by (take (count_at 6 words) order) (mod_of words n))))
   pub left : output ≡ sets output₀ 0 (bytes_of (write (link_by (take (count_at 6 words) order) (mod_of words n))))

@@ -17,12 +17,13 @@ use base_refusals::Refusal;
 use base_views::{FUNCTIONS, Image, count};
 use base_words::{Tags, Words};
 use derive_source::source_types;
-use derive_state::{DerivedMut, Full, ShaderSource, Sizes, Special, StackRows};
+use derive_state::{DerivedMut, Full, NamedSource, Sizes, Special, StackRows};
 use function_entry::enter_all;
 use function_localize::append;
 
-// Appends the functions of the order.
-// `special` is for the contract alone. No ghost value takes its place: a caller has to pick that from the call's other arguments, and none of them has the special types.
+// Appends the functions of the order. It takes the image and no source, since what it promises is of the offset 0.
+// `special` is for the contract alone. No ghost value takes its place: a caller has to pick that from the call's other arguments, and none of them has the special types; and in
+// the clauses what is required would stand twice, of some special types and, before what is promised, of any.
 fn append_all(
     image: Image,
     derived: &mut DerivedMut,
@@ -37,7 +38,7 @@ fn append_all(
     requires roomy { Roomy (mod_of image.words.now image.n) order.now (st_of image.words.now derived.old.log.now derived.old.logtags.now derived.old.starts.now derived.old.maps.now special.now (going ends)) }
     ensures { AppendsAll image.entry.words.now image.entry.tags.now image.entry.n order.now derived.old special.now ends result derived.new stacks.new }
 {
-    let source = ShaderSource { image, offset: 0 };
+    let source = NamedSource { image, offset: 0 };
     let mut e = ends;
     let mut places = [0u16; 1025];
     for f in order {
@@ -73,8 +74,8 @@ pub fn link_in_order(
     // buckets left by another image would only cost time; the answer does not depend on them
     *derived.buckets = [0; 16384];
     let image = Image { words, tags, n };
-    let source = ShaderSource { image, offset: 0 };
-    let set = source_types(source, derived, &mut special, Sizes::empty())?;
+    let source = NamedSource { image, offset: 0 };
+    let set = source_types(source.source(), derived, &mut special, Sizes::empty())?;
     let all = count(image.words, FUNCTIONS);
     let appended = append_all(image, derived, &special, stacks, set, &order[..all])?;
     let ends = enter_all(source, derived, &special, stacks, appended)?;

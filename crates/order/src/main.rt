@@ -1,5 +1,5 @@
 // Reads an image on standard input and prints the order of its functions, or why it is refused; a refusal is also reported on standard error, with its sentence.
-// What is printed is `telling_of` of order_text's specs. Input longer than an image may be is refused 1 and not cut: the buffer holds one byte more.
+// What is printed is `telling_of` of order_text's specs. Input longer than an image may be is refused for its size and not cut: the buffer holds one byte more.
 #![tactic(auto)]
 
 // The answer for an image.

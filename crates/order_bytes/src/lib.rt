@@ -1,9 +1,8 @@
-// The output order of any bytes: intake comes first, then the order, callees first, or refusal 12. A refusal leaves the caller's list as it was.
+// The output order of any bytes: intake comes first, then the order, callees first, or the refusal of a ring. A refusal leaves the caller's list as it was.
 #![tactic(auto)]
 
 ghost use Rattle.std.specs.Prelude.{◌≡◌};
 ghost use Rattle.std.proofs.lemmas.List.Edits.{sets};
-ghost use Rattle.model.specs.Taped.{Tape};
 ghost use Rattle.order_callees.specs.Gathering.{Known};
 ghost use Rattle.model.specs.Refusals.{answer_by};
 ghost use Rattle.model.specs.Image.{OrderEnsures};
@@ -23,8 +22,7 @@ fn copy(order: &[u32], out: &mut [u32])
 
 // The order of a module whose callees are functions goes to the start of `out`, as far as there is room: the count of functions, or the refusal of a ring.
 fn list(image: Image, out: &mut [u32]) -> Result<u32, Refusal>
-    requires tape { Tape image.words.now image.tags.now image.n }
-    requires known { Known image.words.now image.tags.now image.n }
+    requires { Known image.words.now image.tags.now image.n }
     ensures { ListEnsures (answer_by (λ v. v) (ended result)) out.old out.new image.entry.words.now image.entry.tags.now image.entry.n }
 {
     let mut order = [0u32; 256];

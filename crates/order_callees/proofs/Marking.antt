@@ -15,7 +15,17 @@ use Rattle.model.specs.Calls.{any}
 use Rattle.order_ranks.specs.Marks.{marked, SetCall}
 use Rattle.order_ranks.specs.declared.FunctionSet.{FunctionSet}
 use Rattle.theory_order.specs.Cells.{picks}
-use Rattle.order_callees.specs.Gathering.{picked, Markable, Marks}
+use Rattle.order_callees.specs.Gathering.{picked, Marks}
+
+-- words and tags are arrays, and these callees can be marked
+pub record Markable (words tags : List ℕ) (at end i : ℕ) (callees : List FunctionSet) : Type 0 where
+  pub words_long : length words ≡ 16384
+  pub tags_long : length tags ≡ 16384
+  pub rising : at ≤ end
+  pub within : end ≤ 16384
+  pub row : i < 256
+  pub long : length callees ≡ 256
+  pub known : Each (λ j. j < 256) (picked words tags at end)
 
 -- whether l is among them
 abbrev pub among : List ℕ → ℕ → Bool

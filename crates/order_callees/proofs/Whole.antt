@@ -25,9 +25,9 @@ use Rattle.model.specs.Image.{order_ended}
 use Rattle.theory_image.specs.Views.{view_length, view_within}
 use Rattle.theory_image.specs.FunctionViews.{part_words, part_tags, taped_write, taped_length, taped_offset, taped_functions, taped_function, table_least}
 use Rattle.theory_image.specs.Members.{looked_each}
-use Rattle.order_callees.specs.Gathering.{picked, called_by, Markable, Known, Marks, Gathered, Listed}
+use Rattle.order_callees.specs.Gathering.{picked, called_by, Known, Marks, Gathered, Listed}
 use Rattle.theory_order.specs.Cells.{picks, cells_function}
-use Rattle.order_callees.proofs.Marking.{among}
+use Rattle.order_callees.proofs.Marking.{among, Markable}
 use Rattle.theory_order.specs.Same.{order_ext}
 
 -- ---- one function
@@ -100,6 +100,10 @@ module _ {words tags : List ℕ} {n : ℕ} {m : Module} (t : Taped words tags n 
 
   pub few : count_at 6 words ≤ 256
   few = omega (arith, taped_functions t, t.well.functions_ok.few)
+
+  -- each function has a set
+  pub enough : {c : ℕ} (callees : List FunctionSet) → c ≡ count_at 6 words → length callees ≡ 256 → c ≤ length callees
+  enough callees e l = omega (arith, few)
 
   pub offsets : offset_at 6 words + count_at 6 words ≤ 16384
   unfolding sections

@@ -1,10 +1,9 @@
 -- The callees of functions as they are in words and tags: the words of the class CALLEE between two places, and what marking them does.
-use Rattle.std.specs.Prelude.{◌≡◌, true, cond, ◌&&◌, List, ℕ, ◌+◌, ◌≤◌, ◌<◌, eqb, length, take, drop, Result}
+use Rattle.std.specs.Prelude.{◌≡◌, true, cond, ◌&&◌, List, ℕ, ◌<◌, eqb, length, take, drop, Result}
 use Rattle.std.proofs.Math.Seq.{slice}
 use Rattle.model.specs.Module.{Module}
 use Rattle.model.specs.View.{record_at, record_end}
 use Rattle.model.specs.Taped.{Taped}
-use Rattle.model.specs.Carry.{Each}
 use Rattle.model.specs.Calls.{any}
 use Rattle.model.specs.Callees.{calls, order_of, CalleesKnown}
 use Rattle.model.specs.Image.{order_ended}
@@ -24,17 +23,8 @@ unfoldable pub called_by : List ℕ → List ℕ → ℕ → List ℕ
 called_by words tags i = picked words tags (record_at 6 i words) (record_end 6 i words)
 
 -- ---- what the passes are given
--- words and tags are arrays, and these callees can be marked
-pub record Markable (words tags : List ℕ) (at end i : ℕ) (callees : List FunctionSet) : Type 0 where
-  pub words_long : length words ≡ 16384
-  pub tags_long : length tags ≡ 16384
-  pub rising : at ≤ end
-  pub within : end ≤ 16384
-  pub row : i < 256
-  pub long : length callees ≡ 256
-  pub known : Each (λ j. j < 256) (picked words tags at end)
-
--- what test 3 has shown of the callees, of the module that words and tags hold; a clause beside `Tape`, for the reason that base_views::Image has for that
+-- what test 3 has shown of the callees, of the module that words and tags hold. A clause of two public functions, which five places call: each would wrap its image
+-- for that call alone, `Calls { image }.order_of(out)` for `order_of(image, out)`. Test 3 itself, which a source's type says, is more than they ask.
 abbrev pub Known : List ℕ → List ℕ → ℕ → Type 0
 Known words tags n = (m : Module) → Taped words tags n m → CalleesKnown m
 

@@ -22,11 +22,12 @@ unfoldable pub name_text : Cells → List ℕ
 name_text [] = []
 name_text (c ∷ cs) = take (word c) (bytes_of (map word cs))
 
--- the name of table function s
+-- the name of a table function, where there is one
 unfoldable pub name_in : List Cells → Option Function → List ℕ
 name_in ns none = []
 name_in ns (some f) = name_text (get_or ns (name_word f - 1) [])
 
+-- the name of table function s
 unfoldable pub name_of : Module → ℕ → List ℕ
 name_of m s = name_in m.names (get_elem? m.functions s)
 
@@ -35,6 +36,7 @@ name_of m s = name_in m.names (get_elem? m.functions s)
 unfoldable pub numbers_text : ℕ → ℕ → List ℕ
 numbers_text new source = decimal new ++ (32 ∷ (decimal source ++ (32 ∷ [])))
 
+-- a line: these, the name, and the end of the line
 unfoldable pub line_text : ℕ → ℕ → List ℕ → List ℕ
 line_text new source name = numbers_text new source ++ (name ++ (10 ∷ []))
 
@@ -72,10 +74,11 @@ pub record Room (words : List ℕ) (p at : ℕ) : Type 0 where
   pub within : get_or words p 0 ≤ 4 * (16383 - p)
   pub fits : at + get_or words p 0 ≤ 65536
 
--- where the name of table function s is, and its bytes
+-- where the name of table function s is
 abbrev pub name_at : List ℕ → ℕ → ℕ
 name_at words s = record_at 0 (get_or words (record_at 6 s words) 0 - 1) words
 
+-- its bytes
 abbrev pub name_is : List ℕ → ℕ → List ℕ
 name_is words s = text_at words (name_at words s)
 

@@ -15,7 +15,7 @@ fn digit(d: usize) -> u8
     b'0' + d as u8
 }
 
-// Where the name of table function s is.
+// Where the name of table function s is. It has one, as `Readable` says, so that its word is 1 at least; after `checked_sub(1)` there would be a case that never is.
 fn name_of(words: &Words, s: usize) -> usize
     requires { Readable words.now s }
     ensures { result ≡ name_at words.now s }
@@ -36,7 +36,7 @@ struct Cursor<'a> {
 impl Cursor<'_> {
     ghost use Rattle.order_lines.specs.Cursors.{Puts, SameBuffer};
 
-    // These bytes.
+    // Puts these bytes.
     fn put(&mut self, text: &[u8])
         requires { self.old.at + length text.now ≤ 65536 }
         ensures puts { Puts self.old text.now self.new }
@@ -49,7 +49,7 @@ impl Cursor<'_> {
         self.at = end;
     }
 
-    // A number below 1,000, as those of functions are. (`write!` promises its bytes only where it ends with `Ok`, and no clause says when it does.)
+    // Puts a number below 1,000, as those of functions are. (`write!` promises its bytes only where it ends with `Ok`, and no clause says when it does.)
     fn put_number(&mut self, x: usize)
         requires { (self.old.at + 3 ≤ 65536) × (x < 1000) }
         ensures puts { Puts self.old (decimal x) self.new }
@@ -60,7 +60,7 @@ impl Cursor<'_> {
         self.put(&digits[zeros..]);
     }
 
-    // The bytes of the name at p.
+    // Puts the bytes of the name at p.
     fn put_name(&mut self, words: &Words, p: usize)
         requires { Room words.now p self.old.at }
         ensures puts { Puts self.old (text_at words.now p) self.new }
@@ -76,7 +76,7 @@ impl Cursor<'_> {
         self.at = end;
     }
 
-    // Two numbers, each with a space after it.
+    // Puts two numbers, each with a space after it.
     fn put_numbers(&mut self, new: usize, s: usize)
         requires room { self.old.at + length (numbers_text new s) < 65536 }
         requires bound { (new < 1000) × (s < 1000) }
@@ -89,7 +89,7 @@ impl Cursor<'_> {
         self.put(b" ");
     }
 
-    // The line of table function s.
+    // Puts the line of table function s.
     fn put_line(&mut self, words: &Words, new: usize, s: usize)
         requires { Line words.now new s self.old.at }
         ensures puts { Puts self.old (line_text new s (name_is words.now s)) self.new }
@@ -100,7 +100,7 @@ impl Cursor<'_> {
         self.put(b"\n");
     }
 
-    // The lines of an order.
+    // Puts the lines of an order.
     fn put_lines(&mut self, words: &Words, order: &[u32])
         requires { Lines words.now order.now self.old.at }
         ensures puts { Puts self.old (lines_text order.now 0 (name_is words.now)) self.new }
@@ -111,7 +111,7 @@ impl Cursor<'_> {
         }
     }
 
-    // A first line: words, a number, and the end of the line.
+    // Puts a first line: words, a number, and the end of the line.
     fn put_head(&mut self, label: &[u8], x: usize)
         requires room { self.old.at + 20 ≤ 65536 }
         requires label_len_bound { (length label.now ≤ 16) × (x < 1000) }
@@ -124,7 +124,7 @@ impl Cursor<'_> {
     }
 }
 
-// A first line, and how many bytes it has.
+// Puts a first line at the start of `out`: how many bytes it has.
 pub fn head(label: &[u8], x: usize, out: &mut [u8; 65536]) -> usize
     requires out_len { length out.old ≡ 65536 }
     requires label_len_bound { (length label.now ≤ 16) × (x < 1000) }
@@ -135,7 +135,7 @@ pub fn head(label: &[u8], x: usize, out: &mut [u8; 65536]) -> usize
     cursor.at
 }
 
-// The text of an order, and how many bytes it has.
+// Puts the text of an order at the start of `out`: how many bytes it has.
 pub fn text(words: &Words, order: &[u32], out: &mut [u8; 65536]) -> usize
     requires { Text words.now order.now out.old }
     ensures { TextEnsures out.old 0 (ordered_text order.now (name_is words.now)) out.new result }

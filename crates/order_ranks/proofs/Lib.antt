@@ -3,6 +3,7 @@ pub mod Bits
 pub mod Marks
 pub mod Begun
 pub mod Turn
+pub mod Front
 pub mod Whole
 pub mod Leaving
 pub mod Answers

@@ -1,8 +1,8 @@
 -- Sets of marks: what a word with one more bit does to its set, what a meeting of two words says of two sets, and the count of a set.
-use mathlib.Core.Path.{◌≡◌, refl, sym, ap, ◌∙◌}
+use mathlib.Core.Path.{◌≡◌, refl, sym, ap, ap₂, ◌∙◌}
 use mathlib.Core.Bool.{Bool, true, false, cond, ◌&&◌, ◌||◌}
 use mathlib.Core.Logic.{◌⊎◌, inl, inr, ⊎_elim}
-use mathlib.Core.List.{List, [], ◌++◌, append-nil}
+use mathlib.Core.List.{List, [], ◌∷◌, ◌++◌, append-nil}
 use Prim.Native.Nat.{ℕ, zero, suc, ◌+◌, ◌-◌, ◌*◌, ◌/◌, ◌%◌, ◌≤◌, ◌<◌}
 use native.Mathlib.Nat.{mod-lt, div-add-mod', zero-lt-suc, zero-add, suc-add, div-lt_iff_lt-mul}
 use native.Mathlib.Numerals.{add-one}
@@ -12,7 +12,7 @@ use lib.Arith.{digits_div, digits_mod}
 use lib.ListN.{length, get_or, set, replicate, length-append, length-set, length-replicate}
 use lib.Seq.{get_or-set_same, get_or-set_other}
 use borrow.Author.Tests.{eqb-true, eqb-false, eq-eqb, lt-ltb, le-ltb}
-use Rattle.std.specs.List.{list_any, sum_by, range_with_len}
+use Rattle.std.specs.List.{list_any, sum_by, range_with_len, zip}
 use Rattle.theory_lists.specs.Lists.{zeros}
 use Rattle.theory_lists.specs.Booleans.{and-true, and_first, and_second, bool_same, never, either}
 use Rattle.model.specs.Calls.{In, numbers, any, keep}
@@ -229,3 +229,23 @@ counts l =
     let w2 = word-marks l 2 in
     let w3 = word-marks l 3 in
     omega arith
+
+-- ---- word by word, of a set's four words
+pub count_each : (l : List ℕ) → length l ≡ 4 → sum_by (λ w. length (ones_of w)) l ≡ sum_by (λ w. length (ones_of (get_or l w 0))) (range_with_len 0 4)
+count_each (a ∷ b ∷ c ∷ d ∷ []) h = refl
+count_each [] h = absurd (omega arith)
+count_each (a ∷ []) h = absurd (omega arith)
+count_each (a ∷ b ∷ []) h = absurd (omega arith)
+count_each (a ∷ b ∷ c ∷ []) h = absurd (omega arith)
+count_each (a ∷ b ∷ c ∷ d ∷ e ∷ l) h = absurd (omega arith)
+
+word_of_four : (l : List ℕ) → length l ≡ 4 → l ≡ get_or l 0 0 ∷ get_or l 1 0 ∷ get_or l 2 0 ∷ get_or l 3 0 ∷ []
+word_of_four (a ∷ b ∷ c ∷ d ∷ []) h = refl
+word_of_four [] h = absurd (omega arith)
+word_of_four (a ∷ []) h = absurd (omega arith)
+word_of_four (a ∷ b ∷ []) h = absurd (omega arith)
+word_of_four (a ∷ b ∷ c ∷ []) h = absurd (omega arith)
+word_of_four (a ∷ b ∷ c ∷ d ∷ e ∷ l) h = absurd (omega arith)
+
+pub meet_each : (l k : List ℕ) → length l ≡ 4 → length k ≡ 4 → list_any (λ p. meets p.0 p.1) (zip l k) ≡ list_any (λ w. meets (get_or l w 0) (get_or k w 0)) (range_with_len 0 4)
+meet_each l k g h = ap₂ (λ x y. list_any (λ p. meets p.0 p.1) (zip x y)) (word_of_four l g) (word_of_four k h)

@@ -1,6 +1,6 @@
 // The order of output: every function after those that it calls, by rank and then by source number,
 // or the refusal of a ring, with the count of the functions from which a chain of calls reaches it.
-// Callees and waiting functions are sets of 256 marks, four 64-bit words each. Functions are placed in
+// Callees and waiting functions are sets of 256 marks, four 64-bit words each; callees are a slice, with the set of each function. Functions are placed in
 // rounds, as `Redirector::into_module` does in redirect.rs, of which this is a port: a round places those that call none that was waiting when it began.
 #![tactic(auto)]
 
@@ -63,19 +63,19 @@ impl FunctionSet {
     fn count(&self) -> u32
         ensures { result ≡ length (members self.now.0) }
     {
-        (0..4).map(|w| self.0[w].count_ones()).sum()
+        self.0.iter().map(|w| w.count_ones()).sum()
     }
 
     // Whether a function is in both sets.
     pub fn meets(&self, other: &FunctionSet) -> bool
         ensures { result ≡ any (members other.now.0) (holds self.now.0) }
     {
-        (0..4).any(|w| self.0[w] & other.0[w] != 0)
+        self.0.iter().zip(&other.0).any(|(a, b)| a & b != 0)
     }
 }
 
 // No function calls any.
-pub fn clear() -> [FunctionSet; 256]
+pub fn no_calls() -> [FunctionSet; 256]
     ensures { NoCalls result }
 {
     [FunctionSet([0; 4]); 256]
@@ -83,20 +83,14 @@ pub fn clear() -> [FunctionSet; 256]
 
 // A round: those that wait and call none that was waiting when the round began go to `out` from
 // `at` on, and wait no more. One whose last callee goes in this round waits for the next.
-fn place(
-    callees: &[FunctionSet; 256],
-    n: usize,
-    began: FunctionSet,
-    out: &mut [u32; 256],
-    at: usize,
-) -> Round
-    requires { Placeable n began.0 at }
-    ensures { Placed (marked callees.now) n (members began.0) out.old at result.waiting.0 out.new result.at }
+fn place(callees: &[FunctionSet], began: FunctionSet, out: &mut [u32; 256], at: usize) -> Round
+    requires { Placeable (length callees.now) began.0 at }
+    ensures { Placed (marked callees.now) (length callees.now) (members began.0) out.old at result.waiting.0 out.new result.at }
 {
     let mut waiting = began;
     let mut k = at;
-    for f in 0..n {
-        if began.has(f) && !callees[f].meets(&began) {
+    for (f, calls) in callees.iter().enumerate() {
+        if began.has(f) && !calls.meets(&began) {
             waiting.leave(f);
             out[k] = f as u32;
             k += 1;
@@ -105,16 +99,16 @@ fn place(
     Round { waiting, at: k }
 }
 
-// Those of a set that no round places: from each of them calls lead, through the set, to a ring.
-pub fn left(callees: &[FunctionSet; 256], n: usize, began: FunctionSet) -> FunctionSet
-    requires { (n ≤ 256) × Below n began.0 }
-    ensures { Leaves (marked callees.now) n (members began.0) result.0 }
+// Those of a set that no round places, of the functions whose callees are given: from each of them calls lead, through the set, to a ring.
+pub fn left(callees: &[FunctionSet], began: FunctionSet) -> FunctionSet
+    requires { (length callees.now ≤ 256) × Below (length callees.now) began.0 }
+    ensures { Leaves (marked callees.now) (length callees.now) (members began.0) result.0 }
 {
     let mut out = [0; 256];
     let mut waiting = began;
     // until a round places nothing: how many rounds there are is not known before
     loop {
-        let round = place(callees, n, waiting, &mut out, 0);
+        let round = place(callees, waiting, &mut out, 0);
         if round.at == 0 {
             return waiting;
         }
@@ -122,17 +116,18 @@ pub fn left(callees: &[FunctionSet; 256], n: usize, began: FunctionSet) -> Funct
     }
 }
 
-// The order of the n functions, as their source numbers, goes to the first n of `out`; or the refusal has the
+// The order of the functions whose callees are given, as their source numbers, goes to the start of `out`; or the refusal has the
 // count of those left waiting for a ring.
-pub fn order(callees: &[FunctionSet; 256], n: usize, out: &mut [u32; 256]) -> Result<(), Refusal>
-    requires { n ≤ 256 }
-    ensures { Orders (marked callees.now) n out.old result out.new }
+pub fn order(callees: &[FunctionSet], out: &mut [u32; 256]) -> Result<(), Refusal>
+    requires { length callees.now ≤ 256 }
+    ensures { Orders (marked callees.now) (length callees.now) out.old result out.new }
 {
+    let n = callees.len();
     let mut waiting = FunctionSet::first(n);
     let mut at = 0;
     // a round places as many as it can, which no range tells
     while at < n {
-        let round = place(callees, n, waiting, out, at);
+        let round = place(callees, waiting, out, at);
         if round.at == at {
             return Err(Refusal::Ring(waiting.count()));
         }

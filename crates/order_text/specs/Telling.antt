@@ -28,9 +28,11 @@ pub record Telling : Type 0 where
   pub refusal : ℕ
   pub left : ℕ
 
+-- what is told of a refusal by intake
 unfoldable pub refusing : ℕ → Telling
 refusing k = record { text = headed REFUSED k; refusal = k; left = 0 }
 
+-- what is told of a module: its order, or the refusal of a ring
 unfoldable pub telling : Module → Order → Telling
 telling m (ordered os) = record { text = ordered_text os (name_of m); refusal = 0; left = 0 }
 telling m (ring k) = record { text = headed RINGS k; refusal = RING; left = k }
@@ -44,14 +46,16 @@ telling_of = on_image (λ m. telling m (order_of m)) refusing
 abbrev pub NamesKnown : Module → Type 0
 NamesKnown m = Each (λ f. (0 < name_word f) × (name_word f ≤ length m.names)) m.functions
 
+-- the same, of the module that words and tags hold
 abbrev pub Naming : List ℕ → List ℕ → ℕ → Type 0
 Naming words tags n = (m : Module) → Taped words tags n m → NamesKnown m
 
--- the number of the refusal, or 0, and how many functions a ring leaves
+-- the number of the refusal, or 0
 abbrev pub refusal_of : Result (Unit {0}) Refusal → ℕ
 refusal_of (Ok _) = 0
 refusal_of (Err e) = number_of e
 
+-- how many functions a ring leaves, or 0
 abbrev pub left_of : Result (Unit {0}) Refusal → ℕ
 left_of (Ok _) = 0
 left_of (Err e) = count_of e

@@ -3,7 +3,6 @@
 #![tactic(auto)]
 
 ghost use Rattle.std.specs.Prelude.{◌≡◌, length};
-ghost use Rattle.model.specs.Taped.{Tape};
 ghost use Rattle.order_text.specs.Telling.{refusal_of, left_of, telling_of, Passed, TellEnsures, Tells};
 
 use base_refusals::Refusal;
@@ -17,9 +16,8 @@ pub struct Said {
     pub ended: Result<(), Refusal>,
 }
 
-// What is printed and answered for a module that intake has passed: its order, or refusal 12.
+// What is printed and answered for a module that intake has passed: its order, or the refusal of a ring.
 pub fn tell(image: Image, out: &mut [u8; 65536]) -> Said
-    requires tape { Tape image.words.now image.tags.now image.n }
     requires passed { Passed image.words.now image.tags.now image.n }
     requires out_len { length out.old ≡ 65536 }
     ensures { Tells image.entry.words.now image.entry.tags.now image.entry.n out.old out.new result.count (refusal_of result.ended) (left_of result.ended) }
@@ -31,13 +29,14 @@ pub fn tell(image: Image, out: &mut [u8; 65536]) -> Said
             let functions = base_views::count(image.words, base_views::FUNCTIONS);
             text(image.words, &order[..functions], out)
         }
-        // Only a ring is refused. A match on `Ring` leaves an arm for the others; the proof that it is not reached was tried and did not close.
+        // Only a ring is refused, whose number is 12, and its count comes last. A match on `Ring` leaves an arm for the others; the proof that it is not reached was tried and did not close.
         Err(refusal) => head(b"refused 12 left ", refusal.count() as usize, out),
     };
     Said { count, ended }
 }
 
-// What is printed and answered for any bytes.
+// What is printed and answered for any bytes. Taken in as by `order_bytes::order`: words and tags have to outlive the image that borrows them, so that one helper would take
+// a closure, `taken_in(image, |image| tell(image, out))`, with a contract on every image that it may be called with, for two arrays and a call.
 pub fn tell_of(image: &[u8], out: &mut [u8; 65536]) -> Said
     requires { length out.old ≡ 65536 }
     ensures { TellEnsures (telling_of image.now) out.old out.new result.count (refusal_of result.ended) (left_of result.ended) }

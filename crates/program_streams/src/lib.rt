@@ -1,6 +1,7 @@
 // Standard input, output and error as the programs use them. A failed read or write is reported in one line on standard error, in the system's words; a
 // refusal is reported there with its sentence. The programs end with 0 whatever they answer: these lines are how they report failure. A line that standard
-// error does not take is lost.
+// error does not take is lost. `rt` and the program's name are two parameters and no struct: programs print lines of their own, by `println!(rt; ..)`, which would be
+// `println!(program.rt; ..)`, and what reads takes the whole of `HostRuntime`, so that the struct would have a type parameter with another bound in each method.
 #![tactic(auto)]
 
 ghost use Rattle.std.specs.Prelude.{◌≤◌, length, IfOk};
@@ -43,14 +44,14 @@ pub fn unread(rt: &impl Eprint, program: &str, error: io::Error) {
 
 // Writes to standard output; a write that fails is reported.
 pub fn write(rt: &(impl Print + Eprint), program: &str, bytes: &[u8]) {
-    if let Err(error) = rt.write_all(bytes) {
-        unwritten(rt, program, error);
-    }
+    unwritten(rt, program, rt.write_all(bytes));
 }
 
-// Reports that standard output could not be written.
-pub fn unwritten(rt: &impl Eprint, program: &str, error: io::Error) {
-    let _ = eprintln!(rt; "{program}: standard output: {error}");
+// Reports that standard output could not be written, if `written` says so.
+pub fn unwritten(rt: &impl Eprint, program: &str, written: io::Result<()>) {
+    if let Err(error) = written {
+        let _ = eprintln!(rt; "{program}: standard output: {error}");
+    }
 }
 
 // Says a refusal on standard error: `PROGRAM: refused 5: ..`; of a ring also the count of functions from which a chain of calls reaches it:

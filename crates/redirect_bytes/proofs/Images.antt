@@ -9,14 +9,15 @@ use Rattle.model.specs.Outcome.{Laid, laid, bad, strange}
 use Rattle.model.specs.Module.{Module, read}
 use Rattle.model.specs.Taped.{Tape}
 use Rattle.model.specs.Intake.{intake_of}
-use Rattle.model.specs.Redirect.{Answer, redirected, outside, no_original, no_replacement, arguments_differ, results_differ, redirect_function}
+use Rattle.model.specs.Redirect.{Answer, redirected, outside, no_original, no_replacement, arguments_differ, results_differ}
 use Rattle.theory_image.specs.Modules.{read_well}
 use Rattle.intake.specs.Taken.{Accepts, TakeInEnsures}
 use Rattle.model.specs.Refusals.{Ended, refused}
 use Rattle.model.specs.Intake.{of_laid, after_intake, on_words}
 use Rattle.model.specs.Image.{on_image, redirect_ended, redirect_after, redirect_image, redirect_answer, wuldgisp_redirect, RedirectEnsures}
 use Rattle.theory_image.specs.OnWords.{on_refused, on_module}
-use Rattle.redirect_words.specs.Passes.{Redirected, shown, Stores}
+use Rattle.redirect_words.specs.Passes.{Redirected, shown, asked, Stores}
+use Rattle.redirect_words.specs.declared.Request.{Request}
 use Rattle.redirect_words.proofs.Finding.{find_in}
 use Rattle.redirect_words.proofs.Theorems.{accepted}
 use Rattle.redirect_bytes.specs.Answers.{RedirectFunctionEnsures, Small, small_both, small_refused}
@@ -33,22 +34,22 @@ refused_low : {A : Type 0} (e : Refusal) → number_of_refusal e ≤ 6 → refus
 refused_low (Ring left) h = absurd (omega (arith, h))
 refused_low e h = refl
 
-module _ (image : List ℕ) (o p : ℕ) (omit : List ℕ) where
+module _ (image : List ℕ) (q : Request) where
   -- what comes of a module
   abbrev of_module : Module → Ended (ℕ × ℕ) × List ℕ
-  of_module m = (redirect_ended (redirect_function m o p omit), redirect_after image (redirect_function m o p omit))
+  of_module m = (redirect_ended (asked m q), redirect_after image (asked m q))
 
-  by_intake : (k : ℕ) → intake_of (length image) (words_of image) ≡ suc k → redirect_image image o p omit ≡ (refused (suc k), image)
+  by_intake : (k : ℕ) → intake_of (length image) (words_of image) ≡ suc k → redirect_image image q.original q.replacement q.omit.now ≡ (refused (suc k), image)
   unfolding redirect_image on_image
   by_intake k e = on_refused of_module (λ k. (refused k, image)) (length image) (words_of image) k e
 
-  by_module : (m : Module) → intake_of (length image) (words_of image) ≡ 0 → read (words_of image) ≡ laid m → redirect_image image o p omit ≡ of_module m
+  by_module : (m : Module) → intake_of (length image) (words_of image) ≡ 0 → read (words_of image) ≡ laid m → redirect_image image q.original q.replacement q.omit.now ≡ of_module m
   unfolding redirect_image on_image
   by_module m e r = on_module of_module (λ k. (refused k, image)) (length image) (words_of image) m e r
 
   module _ (words tags : List ℕ) where
     -- ---- intake refuses
-    pub intake_refuses : (e : Refusal) → TakeInEnsures (Err e) words tags image → RedirectFunctionEnsures (Err e) image image o p omit
+    pub intake_refuses : (e : Refusal) → TakeInEnsures (Err e) words tags image → RedirectFunctionEnsures (Err e) image image q
     unfolding shown
     intake_refuses e got =
         let x = is_refused e in
@@ -63,18 +64,18 @@ module _ (image : List ℕ) (o p : ℕ) (omit : List ℕ) where
       pub loaded_asks : Tape words tags n × (length image ≡ 4 * n)
       loaded_asks = (record { holds = held.holds; taped = held.taped }, image_long image held.sized_right ∙ ap (4 *◌) (sym held.long))
 
-      pub loaded_tells : (r : Redirected) (image₁ : List ℕ) → Stores r image₁ image words tags n o p omit → RedirectFunctionEnsures r image image₁ o p omit
+      pub loaded_tells : (r : Redirected) (image₁ : List ℕ) → Stores r image₁ image words tags n q → RedirectFunctionEnsures r image image₁ q
       loaded_tells r image₁ s =
           let m = held.holds in
           record { same = ap₂ (λ x y. (x, y)) (s.answer m held.taped) (s.bytes_are m held.taped) ∙ sym (by_module m (sym got.same) held.reads) }
 
   -- ---- room for both numbers
-  told_small : (m : Module) → length m.functions ≤ 256 → (x : Answer) → redirect_function m o p omit ≡ x → Small (redirect_ended x)
+  told_small : (m : Module) → length m.functions ≤ 256 → (x : Answer) → asked m q ≡ x → Small (redirect_ended x)
   unfolding redirect_ended
   told_small m few (redirected a b m') e =
-      let q = accepted m o p omit a b m' e in
-      let u = find_in m.functions 0 o a q.original in
-      let v = find_in m.functions 0 p b q.replacement in
+      let found = accepted m q.original q.replacement q.omit.now a b m' e in
+      let u = find_in m.functions 0 q.original a found.original in
+      let v = find_in m.functions 0 q.replacement b found.replacement in
       small_both {a = a} {b = b} (omega arith) (omega arith)
   told_small m few outside e = small_refused
   told_small m few no_original e = small_refused
@@ -84,7 +85,7 @@ module _ (image : List ℕ) (o p : ℕ) (omit : List ℕ) where
 
   module_small : (x : Laid Module) → read (words_of image) ≡ x → Small (of_laid of_module (λ k. (refused k, image)) x).0
   unfolding of_laid
-  module_small (laid m) e = told_small m (read_well (words_of image) m e).functions_ok.few (redirect_function m o p omit) refl
+  module_small (laid m) e = told_small m (read_well (words_of image) m e).functions_ok.few (asked m q) refl
   module_small bad e = small_refused
   module_small strange e = small_refused
 
@@ -93,17 +94,17 @@ module _ (image : List ℕ) (o p : ℕ) (omit : List ℕ) where
   intake_small zero = module_small (read (words_of image)) refl
   intake_small (suc k) = small_refused
 
-  image_small : Small (redirect_image image o p omit).0
+  image_small : Small (redirect_image image q.original q.replacement q.omit.now).0
   unfolding redirect_image on_image on_words
   image_small = intake_small (intake_of (length image) (words_of image))
 
-  module _ (a : Redirected) (image₁ : List ℕ) (h : RedirectFunctionEnsures a image image₁ o p omit) where
-    told_is : shown a ≡ (redirect_image image o p omit).0
+  module _ (a : Redirected) (image₁ : List ℕ) (h : RedirectFunctionEnsures a image image₁ q) where
+    told_is : shown a ≡ (redirect_image image q.original q.replacement q.omit.now).0
     told_is = ap (λ x. x.0) h.same
 
     pub number_asks : Small (shown a)
     number_asks = rw told_is image_small
 
-    pub packs : (r : ℕ) → r ≡ redirect_answer (shown a) → RedirectEnsures r image image₁ o p omit
+    pub packs : (r : ℕ) → r ≡ redirect_answer (shown a) → RedirectEnsures r image image₁ q.original q.replacement q.omit.now
     unfolding wuldgisp_redirect
     packs r e = record { answer = e ∙ ap redirect_answer told_is; left = ap (λ x. x.1) h.same }

@@ -2,10 +2,12 @@
 use Rattle.std.specs.Prelude.{◌≡◌, List, ℕ, ◌<◌}
 use Rattle.model.specs.Refusals.{Ended, done, refused}
 use Rattle.model.specs.Image.{redirect_image}
+use Rattle.redirect_words.specs.declared.Request.{Request}
 use Rattle.redirect_words.specs.Passes.{Redirected, shown}
 
-pub record RedirectFunctionEnsures (r : Redirected) (image₀ image : List ℕ) (original replacement : ℕ) (omit : List ℕ) : Type 0 where
-  pub same : (shown r, image) ≡ redirect_image image₀ original replacement omit
+-- of the model: the answer, and the image that it leaves
+pub record RedirectFunctionEnsures (r : Redirected) (image₀ image : List ℕ) (q : Request) : Type 0 where
+  pub same : (shown r, image) ≡ redirect_image image₀ q.original q.replacement q.omit.now
 
 -- numbers that have room in an answer
 pub data Small : Ended (ℕ × ℕ) → Type 0 where

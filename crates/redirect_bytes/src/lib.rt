@@ -13,7 +13,7 @@ pub fn redirect_function(
     image: &mut [u8],
     request: Request,
 ) -> Result<(FunctionHandle, FunctionHandle), Refusal>
-    ensures { RedirectFunctionEnsures result image.old image.new request.entry.original request.entry.replacement request.entry.omit.now }
+    ensures { RedirectFunctionEnsures result image.old image.new request.entry }
 {
     let mut words = [0; 16384];
     let mut tags = [0; 16384];

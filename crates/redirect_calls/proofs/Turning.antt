@@ -21,7 +21,8 @@ use Rattle.theory_image.specs.Carries.{carried-classes, carried_words, flat_carr
 use Rattle.theory_image.specs.Sections.{slice_middle}
 use Rattle.theory_image.specs.Views.{length-write, view_length, view_next, view_within}
 use Rattle.theory_image.specs.FunctionViews.{taped_write, taped_offset, taped_record, taped_count, part_end}
-use Rattle.redirect_calls.specs.Turns.{RedirectAllEnsures, turned, turn_one, turn_all, redirected_by}
+use Rattle.redirect_calls.specs.Turns.{RedirectAllEnsures, redirecting_by, stays_by, turned, turned_by, turn_one, turn_all, redirected_by}
+use Rattle.redirect_calls.specs.declared.Redirection.{Redirection}
 use Rattle.redirect_calls.proofs.Contexts.{function-before, function-behind, function_in_lem, function-here, function_long, entries_before, entries_behind, entries_in, entries_long}
 use Rattle.redirect_calls.proofs.Places.{many, standing, end_in, name_is_lem}
 
@@ -153,35 +154,35 @@ well_entries m w es e ws = record {
 }
 
 -- ---- redirect_one
-module _ (words tags : List ℕ) (n j : ℕ) (h : j < count_at 6 words) (a b : ℕ) (omit : List ℕ) where
-  turn-part : (m : Module) (t : Taped words tags n m) → stays b omit j (name_word (function m j)) ≡ false → (s e : ℕ) → s ≡ record_at 6 j words → e ≡ record_end 6 j words → (words₁ : List ℕ) → words₁ ≡ sets words s (zip_with (redirecting a b) (slice s e tags) (slice s e words)) → Taped words₁ tags n (turn_one j a b omit m) × (drop n words₁ ≡ drop n words)
+module _ (words tags : List ℕ) (n j : ℕ) (h : j < count_at 6 words) (q : Redirection) where
+  turn-part : (m : Module) (t : Taped words tags n m) → stays_by q j (name_word (function m j)) ≡ false → (s e : ℕ) → s ≡ record_at 6 j words → e ≡ record_end 6 j words → (words₁ : List ℕ) → words₁ ≡ sets words s (zip_with (redirecting_by q) (slice s e tags) (slice s e words)) → Taped words₁ tags n (turn_one j q m) × (drop n words₁ ≡ drop n words)
   unfolding turn_one turned redirect_fn
   turn-part m t goes s e s-is e-is words₁ is =
       let k : j < length m.functions = omega (arith, many t) in
       let f = function m j in
-      let g = redirect_fn a b f in
-      let keeps = redirecting_keeps a b in
-      let c : flat g ≡ carry_cells (redirecting a b) (flat f) = flat_carry_function (redirecting a b) keeps f in
-      let l : length (flat g) ≡ length (flat f) = ap length c ∙ length-map (flat f) (carry_cell (redirecting a b)) in
-      let x : turned a b omit j f ≡ g = rw (turned, goes) in
-      let w : WellFormed (with_functions m (set m.functions j g)) = well_functions m t.well (set m.functions j g) (length-set m.functions j g) (each_set t.well.functions_ok.each j g (carry_well_function (redirecting a b) keeps f (standing t j h).well)) in
-      let r = rewrite_part (redirecting a b) t (with_functions m (set m.functions j g)) w (function-before m j) (flat f) (function-behind m j) (function-here m j k) (function_in_lem m j k g l ∙ ap (λ y. function-before m j ++ (y ++ function-behind m j)) c) s e (s-is ∙ taped_record t 6 j (omega arith) (omega (arith, taped_count t 6 (omega arith))) ∙ sym (function_long m j k)) (e-is ∙ part_end (standing t j h).part ∙ ap (◌+ length (flat f)) (sym s-is)) words₁ is in
+      let g = redirect_fn q.original.0 q.replacement.0 f in
+      let keeps = redirecting_keeps q.original.0 q.replacement.0 in
+      let c : flat g ≡ carry_cells (redirecting_by q) (flat f) = flat_carry_function (redirecting_by q) keeps f in
+      let l : length (flat g) ≡ length (flat f) = ap length c ∙ length-map (flat f) (carry_cell (redirecting_by q)) in
+      let x : turned_by q j f ≡ g = rw (turned, goes) in
+      let w : WellFormed (with_functions m (set m.functions j g)) = well_functions m t.well (set m.functions j g) (length-set m.functions j g) (each_set t.well.functions_ok.each j g (carry_well_function (redirecting_by q) keeps f (standing t j h).well)) in
+      let r = rewrite_part (redirecting_by q) t (with_functions m (set m.functions j g)) w (function-before m j) (flat f) (function-behind m j) (function-here m j k) (function_in_lem m j k g l ∙ ap (λ y. function-before m j ++ (y ++ function-behind m j)) c) s e (s-is ∙ taped_record t 6 j (omega arith) (omega (arith, taped_count t 6 (omega arith))) ∙ sym (function_long m j k)) (e-is ∙ part_end (standing t j h).part ∙ ap (◌+ length (flat f)) (sym s-is)) words₁ is in
       rw x r
 
-  turn-none : (m : Module) (t : Taped words tags n m) → stays b omit j (name_word (function m j)) ≡ true → Taped words tags n (turn_one j a b omit m)
+  turn-none : (m : Module) (t : Taped words tags n m) → stays_by q j (name_word (function m j)) ≡ true → Taped words tags n (turn_one j q m)
   unfolding turn_one turned with_functions function
   turn-none m t stay =
-      let x : turned a b omit j (function m j) ≡ function m j = rw (turned, stay) in
+      let x : turned_by q j (function m j) ≡ function m j = rw (turned, stay) in
       rw (x, set-get_or m.functions j nothing) t
 
-  module _ (s : ℕ) (s-is : s ≡ record_at 6 j words) (r : Bool) (r-is : r ≡ stays b omit j (get_or words s 0)) where
-    test_is : (m : Module) → Taped words tags n m → r ≡ stays b omit j (name_word (function m j))
-    test_is m t = r-is ∙ ap (stays b omit j) (ap (λ p. get_or words p 0) s-is ∙ name_is_lem t j h)
+  module _ (s : ℕ) (s-is : s ≡ record_at 6 j words) (r : Bool) (r-is : r ≡ stays_by q j (get_or words s 0)) where
+    test_is : (m : Module) → Taped words tags n m → r ≡ stays_by q j (name_word (function m j))
+    test_is m t = r-is ∙ ap (stays_by q j) (ap (λ p. get_or words p 0) s-is ∙ name_is_lem t j h)
 
-    pub one-stays : r ≡ true → RedirectAllEnsures words words tags n (turn_one j a b omit)
+    pub one-stays : r ≡ true → RedirectAllEnsures words words tags n (turn_one j q)
     one-stays y = record { holds = λ m t. turn-none m t (sym (test_is m t) ∙ y); rest = refl }
 
-    pub one-turns : Tape words tags n → r ≡ false → (e : ℕ) → e ≡ record_end 6 j words → (words₁ : List ℕ) → words₁ ≡ sets words s (zip_with (redirecting a b) (slice s e tags) (slice s e words)) → RedirectAllEnsures words₁ words tags n (turn_one j a b omit)
+    pub one-turns : Tape words tags n → r ≡ false → (e : ℕ) → e ≡ record_end 6 j words → (words₁ : List ℕ) → words₁ ≡ sets words s (zip_with (redirecting_by q) (slice s e tags) (slice s e words)) → RedirectAllEnsures words₁ words tags n (turn_one j q)
     one-turns t₀ y e e-is words₁ is =
         record {
           holds = λ m t. (turn-part m t (sym (test_is m t) ∙ y) s e s-is e-is words₁ is).0;
@@ -195,36 +196,36 @@ one_asks words tags n j t h s e s-is e-is =
 
 -- ---- redirect_functions
 -- the first k functions redirected, numbered from i on
-unfoldable pub mix : ℕ → ℕ → List ℕ → ℕ → List Function → ℕ → List Function
-mix a b omit zero fs i = fs
-mix a b omit (suc k) [] i = []
-mix a b omit (suc k) (f ∷ fs) i = turned a b omit i f ∷ mix a b omit k fs (suc i)
+unfoldable pub mix : Redirection → ℕ → List Function → ℕ → List Function
+mix q zero fs i = fs
+mix q (suc k) [] i = []
+mix q (suc k) (f ∷ fs) i = turned_by q i f ∷ mix q k fs (suc i)
 
-module _ (a b : ℕ) (omit : List ℕ) where
-  length-mix : (k : ℕ) (fs : List Function) (i : ℕ) → length (mix a b omit k fs i) ≡ length fs
+module _ (q : Redirection) where
+  length-mix : (k : ℕ) (fs : List Function) (i : ℕ) → length (mix q k fs i) ≡ length fs
   unfolding mix
   length-mix zero fs i = refl
   length-mix (suc k) [] i = refl
   length-mix (suc k) (f ∷ fs) i = ap suc (length-mix k fs (suc i))
 
-  mix-step : (k : ℕ) (fs : List Function) (i j : ℕ) → i + k ≡ j → k < length fs → set (mix a b omit k fs i) k (turned a b omit j (get_or (mix a b omit k fs i) k nothing)) ≡ mix a b omit (suc k) fs i
+  mix-step : (k : ℕ) (fs : List Function) (i j : ℕ) → i + k ≡ j → k < length fs → set (mix q k fs i) k (turned_by q j (get_or (mix q k fs i) k nothing)) ≡ mix q (suc k) fs i
   unfolding mix
   mix-step k [] i j e h = absurd (omega arith)
-  mix-step zero (f ∷ fs) i j e h = let q : j ≡ i = omega arith in ap (λ x. turned a b omit x f ∷ fs) q
-  mix-step (suc k) (f ∷ fs) i j e h = ap (turned a b omit i f ∷◌) (mix-step k fs (suc i) j (omega arith) (omega arith))
+  mix-step zero (f ∷ fs) i j e h = let e : j ≡ i = omega arith in ap (λ x. turned_by q x f ∷ fs) e
+  mix-step (suc k) (f ∷ fs) i j e h = ap (turned_by q i f ∷◌) (mix-step k fs (suc i) j (omega arith) (omega arith))
 
-  mix_all : (k : ℕ) (fs : List Function) (i : ℕ) → length fs ≤ k → mix a b omit k fs i ≡ redirect_fns fs i a b omit
+  mix_all : (k : ℕ) (fs : List Function) (i : ℕ) → length fs ≤ k → mix q k fs i ≡ redirect_fns fs i q.original.0 q.replacement.0 q.omit.now
   unfolding mix redirect_fns turned
   mix_all zero [] i h = refl
   mix_all zero (f ∷ fs) i h = absurd (omega arith)
   mix_all (suc k) [] i h = refl
-  mix_all (suc k) (f ∷ fs) i h = ap (turned a b omit i f ∷◌) (mix_all k fs (suc i) (omega arith))
+  mix_all (suc k) (f ∷ fs) i h = ap (turned_by q i f ∷◌) (mix_all k fs (suc i) (omega arith))
 
-module _ (words₀ tags : List ℕ) (n a b : ℕ) (omit : List ℕ) where
+module _ (words₀ tags : List ℕ) (n : ℕ) (q : Redirection) where
   pub record Turning (count : ℕ) (words : List ℕ) (j : ℕ) : Type 0 where
     pub within : j ≤ count
     pub count_is : count ≡ count_at 6 words₀
-    pub holds : (m : Module) → Taped words₀ tags n m → Taped words tags n (with_functions m (mix a b omit j m.functions 0))
+    pub holds : (m : Module) → Taped words₀ tags n m → Taped words tags n (with_functions m (mix q j m.functions 0))
     pub rest : drop n words ≡ drop n words₀
 
   pub turning_begin : (count : ℕ) → count ≡ count_at 6 words₀ → Turning count words₀ 0
@@ -233,31 +234,31 @@ module _ (words₀ tags : List ℕ) (n a b : ℕ) (omit : List ℕ) where
 
   module _ (h : Tape words₀ tags n) (count j : ℕ) (words : List ℕ) (inv : Turning count words j) (less : j < count) where
     pub turning_tape : Tape words tags n
-    turning_tape = record { holds = with_functions h.holds (mix a b omit j h.holds.functions 0); taped = inv.holds h.holds h.taped }
+    turning_tape = record { holds = with_functions h.holds (mix q j h.holds.functions 0); taped = inv.holds h.holds h.taped }
 
     pub turning_in : j < count_at 6 words
     unfolding with_functions
-    turning_in = omega (arith, inv.count_is, many h.taped, many (inv.holds h.holds h.taped), length-mix a b omit j h.holds.functions 0)
+    turning_in = omega (arith, inv.count_is, many h.taped, many (inv.holds h.holds h.taped), length-mix q j h.holds.functions 0)
 
     pub turning_asks : Tape words tags n × (j < count_at 6 words)
     turning_asks = (turning_tape, turning_in)
 
-    pub turning_next : (words₁ : List ℕ) → RedirectAllEnsures words₁ words tags n (turn_one j a b omit) → Turning count words₁ (j + 1)
+    pub turning_next : (words₁ : List ℕ) → RedirectAllEnsures words₁ words tags n (turn_one j q) → Turning count words₁ (j + 1)
     unfolding turn_one with_functions function
     turning_next words₁ t =
         rw add-one
         (record {
           within = less;
           count_is = inv.count_is;
-          holds = λ m x. rw (mix-step a b omit j m.functions 0 j (omega arith) (omega (arith, inv.count_is, many x))) at (t.holds (with_functions m (mix a b omit j m.functions 0)) (inv.holds m x));
+          holds = λ m x. rw (mix-step q j m.functions 0 j (omega arith) (omega (arith, inv.count_is, many x))) at (t.holds (with_functions m (mix q j m.functions 0)) (inv.holds m x));
           rest = t.rest ∙ inv.rest;
         })
 
-  pub turning_done : (count j : ℕ) (words : List ℕ) → Turning count words j → count ≤ j → RedirectAllEnsures words words₀ tags n (turn_all a b omit)
+  pub turning_done : (count j : ℕ) (words : List ℕ) → Turning count words j → count ≤ j → RedirectAllEnsures words words₀ tags n (turn_all q)
   unfolding turn_all
   turning_done count j words inv h =
       record {
-        holds = λ m x. rw (mix_all a b omit j m.functions 0 (omega (arith, inv.count_is, many x))) at (inv.holds m x);
+        holds = λ m x. rw (mix_all q j m.functions 0 (omega (arith, inv.count_is, many x))) at (inv.holds m x);
         rest = inv.rest;
       }
 
@@ -275,7 +276,7 @@ entries_end : (m : Module) → offset_at 8 (write m) ≡ offset_at 7 (write m) +
 unfolding sections
 entries_end m = sym (view_next m 7 (omega arith)) ∙ view_length m 7 (omega arith)
 
-module _ (words tags : List ℕ) (n a b : ℕ) where
+module _ (words tags : List ℕ) (n : ℕ) (q : Redirection) where
   module _ (s e : ℕ) (s-is : s ≡ offset_at 7 words) (e-is : e ≡ offset_at 8 words) where
     entries_start : {m : Module} → Taped words tags n m → s ≡ offset_at 7 (write m)
     entries_start t = s-is ∙ taped_offset t 7 (omega arith)
@@ -289,24 +290,24 @@ module _ (words tags : List ℕ) (n a b : ℕ) where
         let k = t.taped in
         (omega (arith, entries_stop k), omega (arith, entries_stop k, entries_start k, entries_end m, view_next m 7 (omega arith), view_within m 7 (omega arith), taped_write k, k.small), k.words_long, k.tags_long)
 
-    turn_entries : {m : Module} (t : Taped words tags n m) (words₁ : List ℕ) → words₁ ≡ sets words s (zip_with (redirecting a b) (slice s e tags) (slice s e words)) → Taped words₁ tags n (with_entries m (map (redirect_entry a b) m.entries)) × (drop n words₁ ≡ drop n words)
+    turn_entries : {m : Module} (t : Taped words tags n m) (words₁ : List ℕ) → words₁ ≡ sets words s (zip_with (redirecting_by q) (slice s e tags) (slice s e words)) → Taped words₁ tags n (with_entries m (map (redirect_entry q.original.0 q.replacement.0) m.entries)) × (drop n words₁ ≡ drop n words)
     unfolding redirect_entry with_entries
     turn_entries {m} t words₁ is =
-        let keeps = redirecting_keeps a b in
-        let c = carried_entries (redirecting a b) keeps m.entries in
-        let l = ap length c ∙ length-map (flat_table (map flat_entry m.entries)) (carry_cell (redirecting a b)) in
-        rewrite_part (redirecting a b) t (with_entries m (map (redirect_entry a b) m.entries)) (well_entries m t.well (map (redirect_entry a b) m.entries) (length-map m.entries (redirect_entry a b)) (each_map (redirect_entry a b) (carry_well_entry (redirecting a b) keeps) t.well.entries_ok.each)) (entries_before m) (flat_table (map flat_entry m.entries)) (entries_behind m) (entries_in m m.entries refl refl) (entries_in m (map (redirect_entry a b) m.entries) (length-map m.entries (redirect_entry a b)) l ∙ ap (λ y. entries_before m ++ (y ++ entries_behind m)) c) s e (entries_start t ∙ sym (entries_long m)) (entries_stop t) words₁ is
+        let keeps = redirecting_keeps q.original.0 q.replacement.0 in
+        let c = carried_entries (redirecting_by q) keeps m.entries in
+        let l = ap length c ∙ length-map (flat_table (map flat_entry m.entries)) (carry_cell (redirecting_by q)) in
+        rewrite_part (redirecting_by q) t (with_entries m (map (redirect_entry q.original.0 q.replacement.0) m.entries)) (well_entries m t.well (map (redirect_entry q.original.0 q.replacement.0) m.entries) (length-map m.entries (redirect_entry q.original.0 q.replacement.0)) (each_map (redirect_entry q.original.0 q.replacement.0) (carry_well_entry (redirecting_by q) keeps) t.well.entries_ok.each)) (entries_before m) (flat_table (map flat_entry m.entries)) (entries_behind m) (entries_in m m.entries refl refl) (entries_in m (map (redirect_entry q.original.0 q.replacement.0) m.entries) (length-map m.entries (redirect_entry q.original.0 q.replacement.0)) l ∙ ap (λ y. entries_before m ++ (y ++ entries_behind m)) c) s e (entries_start t ∙ sym (entries_long m)) (entries_stop t) words₁ is
 
-pub all-turns : (words₀ words tags : List ℕ) (n a b : ℕ) (omit : List ℕ) → Tape words₀ tags n → RedirectAllEnsures words words₀ tags n (turn_all a b omit) → (s e : ℕ) → s ≡ offset_at 7 words → e ≡ offset_at 8 words → (words₁ : List ℕ) → words₁ ≡ sets words s (zip_with (redirecting a b) (slice s e tags) (slice s e words)) → RedirectAllEnsures words₁ words₀ tags n (redirected_by a b omit)
+pub all-turns : (words₀ words tags : List ℕ) (n : ℕ) (q : Redirection) → Tape words₀ tags n → RedirectAllEnsures words words₀ tags n (turn_all q) → (s e : ℕ) → s ≡ offset_at 7 words → e ≡ offset_at 8 words → (words₁ : List ℕ) → words₁ ≡ sets words s (zip_with (redirecting_by q) (slice s e tags) (slice s e words)) → RedirectAllEnsures words₁ words₀ tags n (redirected_by q)
 unfolding turn_all redirected_by redirect with_functions
-all-turns words₀ words tags n a b omit h t s e s-is e-is words₁ is =
+all-turns words₀ words tags n q h t s e s-is e-is words₁ is =
     record {
-      holds = λ m x. (turn_entries words tags n a b s e s-is e-is (t.holds m x) words₁ is).0;
-      rest = (turn_entries words tags n a b s e s-is e-is (t.holds h.holds h.taped) words₁ is).1 ∙ t.rest;
+      holds = λ m x. (turn_entries words tags n q s e s-is e-is (t.holds m x) words₁ is).0;
+      rest = (turn_entries words tags n q s e s-is e-is (t.holds h.holds h.taped) words₁ is).1 ∙ t.rest;
     }
 
 pub turned_tape : (words₀ words tags : List ℕ) (n : ℕ) (f : Module → Module) → Tape words₀ tags n → RedirectAllEnsures words words₀ tags n f → Tape words tags n
 turned_tape words₀ words tags n f h t = record { holds = f h.holds; taped = t.holds h.holds h.taped }
 
-pub all_asks : (words₀ words tags : List ℕ) (n a b : ℕ) (omit : List ℕ) → Tape words₀ tags n → RedirectAllEnsures words words₀ tags n (turn_all a b omit) → (s e : ℕ) → s ≡ offset_at 7 words → e ≡ offset_at 8 words → (s ≤ e) × (e ≤ 16384) × (length words ≡ 16384) × (length tags ≡ 16384)
-all_asks words₀ words tags n a b omit h t s e s-is e-is = entries_asks words tags n a b s e s-is e-is (turned_tape words₀ words tags n (turn_all a b omit) h t)
+pub all_asks : (words₀ words tags : List ℕ) (n : ℕ) (q : Redirection) → Tape words₀ tags n → RedirectAllEnsures words words₀ tags n (turn_all q) → (s e : ℕ) → s ≡ offset_at 7 words → e ≡ offset_at 8 words → (s ≤ e) × (e ≤ 16384) × (length words ≡ 16384) × (length tags ≡ 16384)
+all_asks words₀ words tags n q h t s e s-is e-is = entries_asks words tags n q s e s-is e-is (turned_tape words₀ words tags n (turn_all q) h t)

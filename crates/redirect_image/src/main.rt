@@ -7,6 +7,13 @@ ghost use Rattle.redirect_image.specs.Numbers.{read as read_of};
 
 use redirect_words::Request;
 use std::env::{Env, FillError};
+use std::fmt;
+
+// How many names may be omitted: as many as an image may have.
+const MOST_OMITTED: usize = 512;
+
+// The arguments before them: the program's name, the original and the replacement.
+const HEAD: usize = 3;
 
 // A decimal number: digits alone, since `parse` takes a sign too.
 fn read(text: &[u8]) -> Option<u32>
@@ -38,24 +45,28 @@ fn is_present(rt: &impl Env, i: usize) -> bool {
     !matches!(rt.arg(i, &mut []), Err(FillError::NotPresent))
 }
 
-// How many arguments there are, the program's name among them; counted up to 516.
+// How many arguments there are, the program's name among them; counted up to one more than there may be.
 fn argument_count(rt: &impl Env) -> usize {
-    (0..516).take_while(|i| is_present(rt, *i)).count()
+    (0..HEAD + MOST_OMITTED + 1)
+        .take_while(|i| is_present(rt, *i))
+        .count()
 }
 
-// Says on standard error how the arguments are wrong.
-fn tell(rt: &impl Eprint, bad: BadArguments) {
-    let _ = match bad {
-        BadArguments::TooFew => eprintln!(rt;
-            "usage: redirect_image ORIGINAL REPLACEMENT [OMITTED ..] < IMAGE > REDIRECTED, where functions are given by the numbers of their names"
-        ),
-        BadArguments::TooMany => eprintln!(rt;
-            "redirect_image: more names are omitted than an image may have, 512"
-        ),
-        BadArguments::NoNumber(i) => eprintln!(rt;
-            "redirect_image: argument {i} is no number of a name"
-        ),
-    };
+impl fmt::Display for BadArguments {
+    fn fmt<W: fmt::Write>(&self, f: &mut fmt::Formatter<W>) -> fmt::Result {
+        match self {
+            BadArguments::TooFew => f.write_str(
+                "usage: redirect_image ORIGINAL REPLACEMENT [OMITTED ..] < IMAGE > REDIRECTED, where functions are given by the numbers of their names",
+            ),
+            BadArguments::TooMany => write!(
+                f,
+                "redirect_image: more names are omitted than an image may have, {MOST_OMITTED}"
+            ),
+            BadArguments::NoNumber(i) => {
+                write!(f, "redirect_image: argument {i} is no number of a name")
+            }
+        }
+    }
 }
 
 // Writes the image, redirected; or its refusal.
@@ -69,19 +80,19 @@ fn redirect(rt: &(impl Print + Eprint), image: &mut [u8], request: Request) {
 // Reads the arguments and then the image, which is redirected.
 fn run(rt: &HostRuntime) -> Result<(), BadArguments> {
     let count = argument_count(rt);
-    if count < 3 {
+    if count < HEAD {
         return Err(BadArguments::TooFew);
     }
-    if 515 < count {
+    if HEAD + MOST_OMITTED < count {
         return Err(BadArguments::TooMany);
     }
     let original = argument(rt, 1)?;
     let replacement = argument(rt, 2)?;
     // room for every name
-    let mut omit = [0; 512];
-    let omit = &mut omit[..count - 3];
+    let mut omit = [0; MOST_OMITTED];
+    let omit = &mut omit[..count - HEAD];
     for (i, name) in omit.iter_mut().enumerate() {
-        *name = argument(rt, i + 3)?;
+        *name = argument(rt, i + HEAD)?;
     }
     let request = Request {
         original,
@@ -94,6 +105,6 @@ fn run(rt: &HostRuntime) -> Result<(), BadArguments> {
 
 fn main(rt: HostRuntime) {
     if let Err(bad) = run(&rt) {
-        tell(&rt, bad);
+        let _ = eprintln!(rt; "{bad}");
     }
 }

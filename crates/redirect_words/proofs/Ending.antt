@@ -8,17 +8,19 @@ use native.Mathlib.Omega.{arith}
 use lib.ListN.{length, take, drop, take-append-drop}
 use lib.Seq.{sets, length-take-le}
 use Rattle.model.specs.Module.{Module, write}
-use Rattle.model.specs.Taped.{Taped, Tape}
+use Rattle.model.specs.Taped.{Taped}
 use Rattle.model.specs.Redirect.{find, all_below, argument_types, agree, result_type, same, redirect, Answer, redirected, outside, no_original, no_replacement, arguments_differ, results_differ, after, function, compared, with_replacement, with_original, redirect_function}
 use Rattle.theory_image.specs.FunctionViews.{taped_write}
 use Rattle.model.specs.Refusals.{Ended, done, refused}
 use Rattle.model.specs.Image.{redirect_ended}
-use Rattle.redirect_words.specs.Passes.{shown, Tests, Redirects}
+use Rattle.redirect_words.specs.Passes.{shown, asked, Tests, Redirects}
 use Rattle.redirect_calls.specs.Turns.{RedirectAllEnsures, redirected_by}
 use Rattle.std.specs.Prelude.{Ok, Err}
 use Rattle.base_refusals.specs.declared.Refusal.{Refusal}
 use Rattle.base_refusals.specs.declared.Refusal.TheVariants.{Ring}
 use Rattle.base_refusals.specs.Numbers.{refused_by}
+use Rattle.base_views.specs.declared.Image.{Image}
+use Rattle.redirect_words.specs.declared.Request.{Request}
 use Rattle.redirect_calls.proofs.Turning.{sets_middle}
 use Rattle.base_handles.specs.declared.FunctionHandle.{FunctionHandle}
 
@@ -84,21 +86,21 @@ held_words {words} {n} {m} t words₀ long e =
     a ∙ sym (ap (λ w. sets w 0 (write m)) (sym (take-append-drop n words₀)) ∙ sets_middle [] (write m) (take n words₀) (drop n words₀) l)
 
 -- ---- redirect_words
-module _ (words tags : List ℕ) (n o p : ℕ) (omit : List ℕ) where
-  pub words_stay : (e : Refusal) → Tests (Err e) words tags n o p omit → Redirects (Err e) words words tags n o p omit
+module _ (image : Image) (q : Request) where
+  pub words_stay : (e : Refusal) → Tests (Err e) image q → Redirects (Err e) image.words.now image.words.now image.tags.now image.n q
   unfolding shown
   words_stay e t =
       record {
         answer = t.same;
-        words_are = λ m x. held_words x words x.words_long refl ∙ ap (λ y. sets words 0 (write y)) (sym (after-stays m (redirect_function m o p omit) (not_done e _ (sym (t.same m x)))));
+        words_are = λ m x. held_words x image.words.now x.words_long refl ∙ ap (λ y. sets image.words.now 0 (write y)) (sym (after-stays m (asked m q) (not_done e _ (sym (t.same m x)))));
       }
 
-  pub words_turn : Tape words tags n → (a b : FunctionHandle) → Tests (Ok (a, b)) words tags n o p omit → (words₁ : List ℕ) → RedirectAllEnsures words₁ words tags n (redirected_by a.0 b.0 omit) → Redirects (Ok (a, b)) words₁ words tags n o p omit
+  pub words_turn : (a b : FunctionHandle) → Tests (Ok (a, b)) image q → (words₁ : List ℕ) → RedirectAllEnsures words₁ image.words.now image.tags.now image.n (redirected_by (record { original = a; replacement = b; omit = q.omit })) → Redirects (Ok (a, b)) words₁ image.words.now image.tags.now image.n q
   unfolding shown redirected_by after
-  words_turn h a b t words₁ u =
+  words_turn a b t words₁ u =
       record {
         answer = t.same;
         words_are = λ m x.
-            let q : redirect_function m o p omit ≡ redirected a.0 b.0 (redirect m a.0 b.0 omit) = (answered m o p omit).done_is a.0 b.0 (sym (t.same m x)) in
-            held_words (u.holds m x) words x.words_long u.rest ∙ ap (λ y. sets words 0 (write (after m y))) (sym q);
+            let turns : asked m q ≡ redirected a.0 b.0 (redirect m a.0 b.0 q.omit.now) = (answered m q.original q.replacement q.omit.now).done_is a.0 b.0 (sym (t.same m x)) in
+            held_words (u.holds m x) image.words.now x.words_long u.rest ∙ ap (λ y. sets image.words.now 0 (write (after m y))) (sym turns);
       }

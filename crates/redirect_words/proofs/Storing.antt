@@ -7,16 +7,17 @@ use lib.ListN.{length, take, drop, take-append-drop}
 use lib.Seq.{sets, length-sets, length-take-le, take_at}
 use Rattle.model.specs.Module.{Module, write}
 use Rattle.model.specs.Taped.{Taped, Tape}
-use Rattle.model.specs.Redirect.{redirect, Answer, redirected, outside, no_original, no_replacement, arguments_differ, results_differ, after, redirect_function}
+use Rattle.model.specs.Redirect.{redirect, Answer, redirected, outside, no_original, no_replacement, arguments_differ, results_differ, after}
 use Rattle.theory_image.specs.FunctionViews.{taped_write}
 use Rattle.base_words.specs.Words.{bytes_of}
 use Rattle.base_words.proofs.Laws.{length_bytes_of}
 use Rattle.model.specs.Refusals.{done}
 use Rattle.model.specs.Image.{redirect_ended, redirect_after}
-use Rattle.redirect_words.specs.Passes.{Redirected, shown, Redirects, Stores}
+use Rattle.redirect_words.specs.Passes.{Redirected, shown, asked, Redirects, Stores}
 use Rattle.std.specs.Prelude.{Ok, Err}
 use Rattle.base_handles.specs.declared.FunctionHandle.{FunctionHandle}
 use Rattle.base_refusals.specs.declared.Refusal.{Refusal}
+use Rattle.redirect_words.specs.declared.Request.{Request}
 use Rattle.redirect_calls.proofs.Turning.{sets_middle}
 use Rattle.redirect_words.proofs.Ending.{Redirecting, answered, not_done}
 use Rattle.redirect_words.proofs.Theorems.{as_long}
@@ -56,12 +57,12 @@ image-turns image m no_replacement a b e = let z : ◌≡◌ {A = ℕ} 0 1 = cc 
 image-turns image m arguments_differ a b e = let z : ◌≡◌ {A = ℕ} 0 1 = cc in absurd (omega arith)
 image-turns image m results_differ a b e = let z : ◌≡◌ {A = ℕ} 0 1 = cc in absurd (omega arith)
 
-module _ (image words tags : List ℕ) (n o p : ℕ) (omit : List ℕ) (h : Tape words tags n) (image_long : length image ≡ 4 * n) (r : Redirected) (words₁ : List ℕ) (t : Redirects r words₁ words tags n o p omit) where
+module _ (image words tags : List ℕ) (n : ℕ) (q : Request) (h : Tape words tags n) (image_long : length image ≡ 4 * n) (r : Redirected) (words₁ : List ℕ) (t : Redirects r words₁ words tags n q) where
   abbrev left : Module → Module
-  left m = after m (redirect_function m o p omit)
+  left m = after m (asked m q)
 
   left_long : {m : Module} → Taped words tags n m → length (write (left m)) ≡ n
-  left_long {m} x = after_as_long m omit (redirect_function m o p omit) (answered m o p omit) ∙ sym (taped_write x)
+  left_long {m} x = after_as_long m q.omit.now (asked m q) (answered m q.original q.replacement q.omit.now) ∙ sym (taped_write x)
 
   words_left : {m : Module} → Taped words tags n m → take n words₁ ≡ write (left m)
   words_left {m} x =
@@ -75,17 +76,17 @@ module _ (image words tags : List ℕ) (n o p : ℕ) (omit : List ℕ) (h : Tape
   pub store_asks : 4 * length (take n words₁) ≤ length image
   store_asks = let k = h.taped in omega (arith, length-take-le n words₁ (omega (arith, k.small, words_long)), image_long)
 
-  pub stays_stored : (e : Refusal) → r ≡ Err e → Stores r image image words tags n o p omit
+  pub stays_stored : (e : Refusal) → r ≡ Err e → Stores r image image words tags n q
   unfolding shown
-  stays_stored e is = record { answer = t.answer; bytes_are = λ m x. sym (image-stays image (redirect_function m o p omit) (not_done e _ (sym (t.answer m x) ∙ ap shown is))) }
+  stays_stored e is = record { answer = t.answer; bytes_are = λ m x. sym (image-stays image (asked m q) (not_done e _ (sym (t.answer m x) ∙ ap shown is))) }
 
-  pub turned_stored : (both : FunctionHandle × FunctionHandle) → r ≡ Ok both → (image₁ : List ℕ) → image₁ ≡ sets image 0 (bytes_of (take n words₁)) → Stores r image₁ image words tags n o p omit
+  pub turned_stored : (both : FunctionHandle × FunctionHandle) → r ≡ Ok both → (image₁ : List ℕ) → image₁ ≡ sets image 0 (bytes_of (take n words₁)) → Stores r image₁ image words tags n q
   unfolding shown
   turned_stored both ok image₁ is =
       record {
         answer = t.answer;
         bytes_are = λ m x.
-            let q : bytes_of (take n words₁) ≡ bytes_of (write (left m)) = ap bytes_of (words_left x) in
+            let w : bytes_of (take n words₁) ≡ bytes_of (write (left m)) = ap bytes_of (words_left x) in
             let l : length (bytes_of (write (left m))) ≡ length image = length_bytes_of (write (left m)) ∙ ap (4 *◌) (left_long x) ∙ sym image_long in
-            is ∙ ap (sets image 0) q ∙ sets-all (bytes_of (write (left m))) image l ∙ sym (image-turns image m (redirect_function m o p omit) both.0.0 both.1.0 (sym (t.answer m x) ∙ ap shown ok));
+            is ∙ ap (sets image 0) w ∙ sets-all (bytes_of (write (left m))) image l ∙ sym (image-turns image m (asked m q) both.0.0 both.1.0 (sym (t.answer m x) ∙ ap shown ok));
       }

@@ -6,7 +6,7 @@ use Prim.Native.Nat.{ℕ, ◌<◌}
 use native.Mathlib.Omega.{arith}
 use lib.ListN.{length}
 use Rattle.model.specs.Module.{Module, count_at}
-use Rattle.model.specs.Taped.{Taped, Tape}
+use Rattle.model.specs.Taped.{Taped}
 use Rattle.model.specs.Redirect.{all_below, with_replacement, with_original, redirect_function}
 use Rattle.theory_image.specs.Views.{sees_names}
 use Rattle.theory_image.specs.FunctionViews.{taped_count}
@@ -16,6 +16,9 @@ use Rattle.std.specs.Prelude.{Result, Ok, Err, Some, None, Option}
 use Rattle.std.specs.Option.{ok_or}
 use Rattle.base_refusals.specs.declared.Refusal.{Refusal}
 use Rattle.base_refusals.specs.declared.Refusal.TheVariants.{NumberGiven, OriginalNotFound, ReplacementNotFound}
+use Rattle.base_views.specs.declared.Image.{Image}
+use Rattle.base_views.proofs.LaidOut.{tape}
+use Rattle.redirect_words.specs.declared.Request.{Request}
 use Rattle.redirect_calls.proofs.Places.{many}
 use Rattle.redirect_words.proofs.Finding.{find_in}
 use Rattle.base_handles.specs.declared.FunctionHandle.{FunctionHandle}
@@ -33,33 +36,37 @@ not_found None e y r is q = (refl, cc)
 not_found (Some a) e y r is q = absurd (cc)
 
 -- a function that was found is in the table
-pub found_in : (words tags : List ℕ) (n name : ℕ) (h : Tape words tags n) (f : Option FunctionHandle) (a : FunctionHandle) → f ≡ Some a → Finds f words tags n name → a.0 < count_at 6 words
+pub found_in : (image : Image) (name : ℕ) (f : Option FunctionHandle) (a : FunctionHandle) → f ≡ Some a → Finds f image name → a.0 < count_at 6 image.words.now
 unfolding found_at
-found_in words tags n name h f a e s = omega (arith, find_in h.holds.functions 0 name a.0 (sym (s.same h.holds h.taped) ∙ ap found_at e), many h.taped)
+found_in image name f a e s = let h = tape image in omega (arith, find_in h.holds.functions 0 name a.0 (sym (s.same h.holds h.taped) ∙ ap found_at e), many h.taped)
 
-module _ (words tags : List ℕ) (n o p : ℕ) (omit : List ℕ) (r : Bool) (is : r ≡ all_below (o ∷ p ∷ omit) (count_at 0 words)) where
-  below : (m : Module) → Taped words tags n m → all_below (o ∷ p ∷ omit) (length m.names) ≡ r
-  below m t = sym (is ∙ ap (all_below (o ∷ p ∷ omit)) (names_many t))
+-- the numbers of names that a request gives
+abbrev numbers_of : Request → List ℕ
+numbers_of q = q.original ∷ q.replacement ∷ q.omit.now
 
-  pub test-outside : r ≡ false → Tests (Err NumberGiven) words tags n o p omit
+module _ (image : Image) (q : Request) (r : Bool) (is : r ≡ all_below (numbers_of q) (count_at 0 image.words.now)) where
+  below : (m : Module) → Taped image.words.now image.tags.now image.n m → all_below (numbers_of q) (length m.names) ≡ r
+  below m t = sym (is ∙ ap (all_below (numbers_of q)) (names_many t))
+
+  pub test-outside : r ≡ false → Tests (Err NumberGiven) image q
   unfolding redirect_function shown redirect_ended
   test-outside e = record { same = λ m t. rw (redirect_function, below m t ∙ e) }
 
-  module _ (e : r ≡ true) (f : Option FunctionHandle) (s : Finds f words tags n o) where
-    pub test_original : f ≡ None → Tests (Err OriginalNotFound) words tags n o p omit
+  module _ (e : r ≡ true) (f : Option FunctionHandle) (s : Finds f image q.original) where
+    pub test_original : f ≡ None → Tests (Err OriginalNotFound) image q
     unfolding redirect_function with_original shown redirect_ended found_at
     test_original z = record { same = λ m t. rw (redirect_function, below m t ∙ e, sym (s.same m t) ∙ ap found_at z) }
 
-    module _ (a : FunctionHandle) (z : f ≡ Some a) (g : Option FunctionHandle) (u : Finds g words tags n p) where
-      pub test_replacement : g ≡ None → Tests (Err ReplacementNotFound) words tags n o p omit
+    module _ (a : FunctionHandle) (z : f ≡ Some a) (g : Option FunctionHandle) (u : Finds g image q.replacement) where
+      pub test_replacement : g ≡ None → Tests (Err ReplacementNotFound) image q
       unfolding redirect_function with_original with_replacement shown redirect_ended found_at
       test_replacement y = record { same = λ m t. rw (redirect_function, below m t ∙ e, sym (s.same m t) ∙ ap found_at z, with_replacement, sym (u.same m t) ∙ ap found_at y) }
 
       module _ (b : FunctionHandle) (y : g ≡ Some b) where
-        pub test_differ : (x : Refusal) → Compares (Err x) words tags n a.0 b.0 → Tests (Err x) words tags n o p omit
+        pub test_differ : (x : Refusal) → Compares (Err x) image a b → Tests (Err x) image q
         unfolding redirect_function with_original with_replacement shown both_or found_at
-        test_differ x d = record { same = λ m t. rw (redirect_function, below m t ∙ e, sym (s.same m t) ∙ ap found_at z, with_replacement, sym (u.same m t) ∙ ap found_at y) (d.same m t omit) }
+        test_differ x d = record { same = λ m t. rw (redirect_function, below m t ∙ e, sym (s.same m t) ∙ ap found_at z, with_replacement, sym (u.same m t) ∙ ap found_at y) (d.same m t q.omit.now) }
 
-        pub test_agree : (x : Unit {0}) → Compares (Ok x) words tags n a.0 b.0 → Tests (Ok (a, b)) words tags n o p omit
+        pub test_agree : (x : Unit {0}) → Compares (Ok x) image a b → Tests (Ok (a, b)) image q
         unfolding redirect_function with_original with_replacement shown both_or found_at
-        test_agree x d = record { same = λ m t. rw (redirect_function, below m t ∙ e, sym (s.same m t) ∙ ap found_at z, with_replacement, sym (u.same m t) ∙ ap found_at y) (d.same m t omit) }
+        test_agree x d = record { same = λ m t. rw (redirect_function, below m t ∙ e, sym (s.same m t) ∙ ap found_at z, with_replacement, sym (u.same m t) ∙ ap found_at y) (d.same m t q.omit.now) }

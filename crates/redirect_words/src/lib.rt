@@ -1,6 +1,7 @@
 // Redirecting over the words and the tags of an image that passed intake. Functions are found by name number, their argument
 // and result types are compared, and the original is replaced by the replacement in Calls and CallResults. The tests read and change nothing; the pass after
-// them goes once over the functions and the entry points. What writes words takes words and tags as two parameters, as redirect_calls does.
+// them goes once over the functions and the entry points. What writes words takes words and tags as two parameters, as redirect_calls does, with the reason there. No struct has
+// an image and a function of it: two functions are compared, and a clause would have to say that they are of one image, where clauses now say that each is in its table.
 #![tactic(auto)]
 
 ghost use Rattle.std.specs.Prelude.{◌≡◌, ◌∷◌, ◌+◌, ◌*◌, ◌<◌, eqb, suc, length, get_or};
@@ -27,27 +28,24 @@ pub struct Request<'a> {
 
 // Where a table function starts.
 fn start(image: Image, f: FunctionHandle) -> usize
-    requires tape { Tape image.words.now image.tags.now image.n }
-    requires f_bound { f.0 < count_at 6 image.words.now }
+    requires { f.0 < count_at 6 image.words.now }
     ensures { result ≡ record_at 6 f.0 image.entry.words.now }
 {
     image.record_at(FUNCTIONS, f.0 as usize)
 }
 
-// Whether table function j has a name.
+// Whether table function j has the name of this number.
 fn has_name(image: Image, j: usize, name: u32) -> bool
-    requires tape { Tape image.words.now image.tags.now image.n }
-    requires j_bound { j < count_at 6 image.words.now }
+    requires { j < count_at 6 image.words.now }
     ensures { result ≡ eqb (get_or image.entry.words.now (record_at 6 j image.entry.words.now) 0) (suc name) }
 {
     let at = image.record_at(FUNCTIONS, j);
     is_named(image.words[at], name)
 }
 
-// The table function with a name.
+// The first table function that has the name of this number.
 pub fn find(image: Image, name: u32) -> Option<FunctionHandle>
-    requires { Tape image.words.now image.tags.now image.n }
-    ensures { Finds result image.entry.words.now image.entry.tags.now image.entry.n name }
+    ensures { Finds result image.entry name }
 {
     (0..count(image.words, FUNCTIONS))
         .find(|j| has_name(image, *j, name))
@@ -73,9 +71,8 @@ fn type_at(words: &Words, s: usize, i: usize) -> u32
 
 // Whether the argument types of two functions are equal, up to the shorter list.
 fn arguments_agree(image: Image, original: FunctionHandle, replacement: FunctionHandle) -> bool
-    requires tape { Tape image.words.now image.tags.now image.n }
-    requires bounds { (original.0 < count_at 6 image.words.now) × (replacement.0 < count_at 6 image.words.now) }
-    ensures { Agrees result image.entry.words.now image.entry.tags.now image.entry.n original.0 replacement.0 }
+    requires { (original.0 < count_at 6 image.words.now) × (replacement.0 < count_at 6 image.words.now) }
+    ensures { Agrees result image.entry original replacement }
 {
     let a = start(image, original);
     let b = start(image, replacement);
@@ -85,8 +82,7 @@ fn arguments_agree(image: Image, original: FunctionHandle, replacement: Function
 
 // Where the result of a function is.
 fn returns_at(image: Image, f: FunctionHandle) -> usize
-    requires tape { Tape image.words.now image.tags.now image.n }
-    requires f_bound { f.0 < count_at 6 image.words.now }
+    requires { f.0 < count_at 6 image.words.now }
     ensures { (result ≡ returns_at (record_at 6 f.0 image.entry.words.now) image.entry.words.now) × (result < 16384) }
 {
     base_views::returns_at(image.words, start(image, f))
@@ -94,9 +90,8 @@ fn returns_at(image: Image, f: FunctionHandle) -> usize
 
 // Whether two functions have no result, or results of one type.
 fn results_agree(image: Image, original: FunctionHandle, replacement: FunctionHandle) -> bool
-    requires tape { Tape image.words.now image.tags.now image.n }
-    requires bounds { (original.0 < count_at 6 image.words.now) × (replacement.0 < count_at 6 image.words.now) }
-    ensures { Returns result image.entry.words.now image.entry.tags.now image.entry.n original.0 replacement.0 }
+    requires { (original.0 < count_at 6 image.words.now) × (replacement.0 < count_at 6 image.words.now) }
+    ensures { Returns result image.entry original replacement }
 {
     let x = returns_at(image, original);
     let y = returns_at(image, replacement);
@@ -110,9 +105,8 @@ pub fn compare(
     original: FunctionHandle,
     replacement: FunctionHandle,
 ) -> Result<(), Refusal>
-    requires tape { Tape image.words.now image.tags.now image.n }
-    requires bounds { (original.0 < count_at 6 image.words.now) × (replacement.0 < count_at 6 image.words.now) }
-    ensures { Compares result image.entry.words.now image.entry.tags.now image.entry.n original.0 replacement.0 }
+    requires { (original.0 < count_at 6 image.words.now) × (replacement.0 < count_at 6 image.words.now) }
+    ensures { Compares result image.entry original replacement }
 {
     if !arguments_agree(image, original, replacement) {
         return Err(Refusal::ArgumentTypes);
@@ -123,10 +117,10 @@ pub fn compare(
     Ok(())
 }
 
-// The tests in sequence: the numbers given, both names, the argument types, and the result types.
+// The tests in sequence: the numbers given, both names, the argument types, and the result types. Both functions, the original first, are a pair here and above: it is the model's,
+// and only `wuldgisp_redirect` takes it apart, by one pattern, to make it one number.
 fn test(image: Image, request: Request) -> Result<(FunctionHandle, FunctionHandle), Refusal>
-    requires { Tape image.words.now image.tags.now image.n }
-    ensures { Tests result image.entry.words.now image.entry.tags.now image.entry.n request.entry.original request.entry.replacement request.entry.omit.now }
+    ensures { Tests result image.entry request.entry }
 {
     if !inside(request, count(image.words, NAMES) as u32) {
         return Err(Refusal::NumberGiven);
@@ -146,7 +140,7 @@ pub fn redirect_words(
     request: Request,
 ) -> Result<(FunctionHandle, FunctionHandle), Refusal>
     requires { Tape words.old tags.now n }
-    ensures { Redirects result words.new words.old tags.now n request.entry.original request.entry.replacement request.entry.omit.now }
+    ensures { Redirects result words.new words.old tags.now n request.entry }
 {
     let (original, replacement) = test(Image { words, tags, n }, request)?;
     let redirection = Redirection {
@@ -168,7 +162,7 @@ pub fn redirect_loaded(
 ) -> Result<(FunctionHandle, FunctionHandle), Refusal>
     requires tape { Tape words.old tags.now n }
     requires image_len { length image.old ≡ 4 * n }
-    ensures { Stores result image.new image.old words.old tags.now n request.entry.original request.entry.replacement request.entry.omit.now }
+    ensures { Stores result image.new image.old words.old tags.now n request.entry }
 {
     let both = redirect_words(words, tags, n, request)?;
     store(&words[..n], image);

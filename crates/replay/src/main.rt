@@ -36,7 +36,8 @@ fn differs(rt: &(impl Print + Eprint), number: u64) -> io::Result<()> {
     println!(rt; "{number} differs")
 }
 
-fn main(rt: HostRuntime) {
+// Replays all vectors that standard input has. The error is that of a write.
+fn replay(rt: &HostRuntime) -> io::Result<()> {
     let mut input = rt.stdin();
     let mut good: u64 = 0;
     // a bound, many times the vectors there are, keeps the counts from overflowing; input that reaches it has no last line
@@ -45,21 +46,20 @@ fn main(rt: HostRuntime) {
             Ok(Some((want, n))) => {
                 if agrees(&mut input, want, n) {
                     good += 1;
-                } else if let Err(error) = differs(&rt, all + 1) {
-                    program_streams::unwritten(&rt, "replay", error);
-                    return;
+                } else {
+                    differs(rt, all + 1)?;
                 }
             }
-            Ok(None) => {
-                if let Err(error) = println!(rt; "{all} vectors, {good} agree") {
-                    program_streams::unwritten(&rt, "replay", error);
-                }
-                return;
-            }
+            Ok(None) => return println!(rt; "{all} vectors, {good} agree"),
             Err(error) => {
-                program_streams::unread(&rt, "replay", error);
-                return;
+                program_streams::unread(rt, "replay", error);
+                return Ok(());
             }
         }
     }
+    Ok(())
+}
+
+fn main(rt: HostRuntime) {
+    program_streams::unwritten(&rt, "replay", replay(&rt));
 }

@@ -1,3 +1,4 @@
 pub mod Running
 pub mod Firsts
 pub mod Going
+pub mod Chunks

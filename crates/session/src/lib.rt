@@ -11,9 +11,7 @@ ghost use Rattle.session.specs.Sessions.{or_else, numbered, as_number};
 
 use base_refusals::Refusal;
 use base_words::{Tags, Words};
-use derive_state::{
-    Buckets, DerivedMut, Log, LogTags, Maps, Sizes, Special, StackRows, Starts, clear_maps,
-};
+use derive_state::{DerivedMut, Sizes, Special, StackRows, clear_maps};
 use session_operations::Session;
 use session_steps::{Step, perform};
 
@@ -59,8 +57,8 @@ fn first_of(
     }
 }
 
-// All steps, in arrays that the caller provides, one by one, as C lends them: the first step that was refused, if one was. The arrays may hold anything before, and
-// hold anything after. Nothing is required of `maps` and `buckets`: they are overwritten before use.
+// All steps, in arrays that the caller provides: the first step that was refused, if one was. The arrays may hold anything before, and hold anything after.
+// Nothing is required of `maps` and `buckets`: they are overwritten before use.
 pub fn session_in(
     sources: &[u8],
     steps: &[u32],
@@ -68,27 +66,24 @@ pub fn session_in(
     output: &mut [u8],
     words: &mut Words,
     tags: &mut Tags,
-    log: &mut Log,
-    logtags: &mut LogTags,
-    starts: &mut Starts,
-    maps: &mut Maps,
-    buckets: &mut Buckets,
+    derived: &mut DerivedMut,
     stacks: &mut StackRows,
 ) -> Result<(), RefusedStep>
     requires words_len { (length words.old ≡ 16384) × (length tags.old ≡ 16384) }
-    requires scratch_lengths { ScratchLengths log.old logtags.old starts.old stacks.old }
+    requires scratch_lengths { ScratchLengths derived.old.log.now derived.old.logtags.now derived.old.starts.now stacks.old }
     ensures { SessionEnsures sources.now steps.now answers.old output.old (as_number result) answers.new output.new }
 {
-    clear_maps(maps);
+    clear_maps(derived.maps);
     // buckets left by another session would only cost time; the answer does not depend on them
-    *buckets = [0; 16384];
+    *derived.buckets = [0; 16384];
     let mut special = Special::new();
+    // lent again field by field: the check refuses to move a parameter that holds borrows into a struct which changes
     let derived = DerivedMut {
-        log,
-        logtags,
-        starts,
-        maps,
-        buckets,
+        log: &mut *derived.log,
+        logtags: &mut *derived.logtags,
+        starts: &mut *derived.starts,
+        maps: &mut *derived.maps,
+        buckets: &mut *derived.buckets,
     };
     let mut session = Session {
         source: None,
@@ -100,14 +95,10 @@ pub fn session_in(
         sizes: Sizes::empty(),
     };
     let mut first = Ok(());
-    let count = steps.len() / 4;
-    for j in 0..count {
-        let step = Step {
-            operation: steps[4 * j],
-            a: steps[4 * j + 1],
-            b: steps[4 * j + 2],
-            c: steps[4 * j + 3],
-        };
+    let (whole, _) = steps.as_chunks::<4>();
+    for (j, step) in whole.iter().enumerate() {
+        let [operation, a, b, c] = *step;
+        let step = Step { operation, a, b, c };
         let said = perform(&mut session, sources, output, step);
         tell(answers, 3 * j, &three_words(said));
         first = first_of(first, said, j);
@@ -124,26 +115,21 @@ pub fn session(
 ) -> Result<(), RefusedStep>
     ensures { SessionEnsures sources.now steps.now answers.old output.old (as_number result) answers.new output.new }
 {
-    let mut words = [0u32; 16384];
-    let mut tags = [0u8; 16384];
-    let mut log = [0u32; 16384];
-    let mut logtags = [0u8; 16384];
-    let mut starts = [[0u32; 512]; 8];
-    let mut maps = [[0u32; 512]; 6];
-    let mut buckets = [0u16; 16384];
-    let mut stacks = [[0u32; 16384]; 4];
+    let mut derived = DerivedMut {
+        log: &mut [0; 16384],
+        logtags: &mut [0; 16384],
+        starts: &mut [[0; 512]; 8],
+        maps: &mut [[0; 512]; 6],
+        buckets: &mut [0; 16384],
+    };
     session_in(
         sources,
         steps,
         answers,
         output,
-        &mut words,
-        &mut tags,
-        &mut log,
-        &mut logtags,
-        &mut starts,
-        &mut maps,
-        &mut buckets,
-        &mut stacks,
+        &mut [0; 16384],
+        &mut [0; 16384],
+        &mut derived,
+        &mut [[0; 16384]; 4],
     )
 }

@@ -1,5 +1,6 @@
 // The operations of a session on functions, and finishing with entry points: each makes its tests in document 01's sequence, and where it is refused the session
-// is as it was. The stacks of functions under construction are empty between operations.
+// is as it was. The stacks of functions under construction are empty between operations. The last lines of two of them are alike: a function of these would take the session, and a
+// source that borrows the session's words.
 #![tactic(auto)]
 
 ghost use Rattle.std.specs.Prelude.{◌≡◌, true, ℕ, ◌<◌, length, replicate};
@@ -17,13 +18,15 @@ ghost use Rattle.session_operations.specs.Answers.{value_in};
 ghost use Rattle.session_operations.specs.Sessions.{Valid, Operates, Finishes, ImportStays, FinishStays};
 ghost use Rattle.session_functions.specs.Brought.{BringsTo};
 
+use base_handles::FunctionHandle;
 use base_refusals::Refusal;
 use base_views::{FUNCTIONS, count};
-use derive_imports::Reference;
-use derive_lookup::known;
+use derive_lookup::{NamedDerived, known};
 use derive_rings::{entries_ring, follow_rings, import_rings};
 use derive_snapshot::{Snapshot, restore};
-use derive_state::{DerivedMut, Full, ShaderSource, Sizes, Special, StackRows, number_of};
+use derive_state::{
+    DerivedMut, Full, NamedSource, Reference, Sizes, Special, StackRows, number_of,
+};
 use function_entry::enter_all;
 use function_localize::append;
 use session_operations::{Session, renew, source_with};
@@ -36,9 +39,10 @@ fn empty_stacks(stacks: &mut StackRows)
 }
 
 // Appends function f, with room for so many functions in progress beside it; where it does not fit nothing has changed.
-// `special` is for the contract alone. No ghost value takes its place: a caller has to pick that from the call's other arguments, and none of them has the special types.
+// `special` is for the contract alone. No ghost value takes its place: a caller has to pick that from the call's other arguments, and none of them has the special types; and in
+// the clauses what is required would stand twice, of some special types and, before what is promised, of any.
 fn append_or_undo(
-    source: ShaderSource,
+    source: NamedSource,
     derived: &mut DerivedMut,
     special: &Special,
     stacks: &mut StackRows,
@@ -62,21 +66,19 @@ fn append_or_undo(
 }
 
 // import_function: appends function f. Its number in the derived module.
-pub fn import_function(session: &mut Session, f: u32) -> Result<u32, Refusal>
+pub fn import_function(session: &mut Session, f: FunctionHandle) -> Result<u32, Refusal>
     requires { Valid session.old }
-    ensures operates { Operates {A = ℕ} (import_function f) session.old (refusal_of result) (value_in result) session.new }
+    ensures operates { Operates {A = ℕ} (import_function f.0) session.old (refusal_of result) (value_in result) session.new }
     ensures stays { ImportStays session.old session.new }
 {
-    let r = Reference {
-        table: FUNCTIONS,
-        number: f,
-    };
-    let source = source_with(session.source, session.words, session.tags, r)?;
-    if import_rings(
-        source.image,
-        &session.derived.view(session.sizes),
-        f as usize,
-    ) {
+    let source = source_with(
+        session.source,
+        session.words,
+        session.tags,
+        Reference::from(f),
+    )?;
+    let view = session.derived.view(session.sizes);
+    if import_rings(source, NamedDerived { view: &view }, f.0 as usize) {
         return Err(Refusal::UnknownRing);
     }
     let room = count(source.image.words, FUNCTIONS);
@@ -86,7 +88,7 @@ pub fn import_function(session: &mut Session, f: u32) -> Result<u32, Refusal>
         session.special,
         session.stacks,
         session.sizes,
-        f as usize,
+        f.0 as usize,
         room,
     )?;
     session.sizes = sizes;
@@ -94,25 +96,23 @@ pub fn import_function(session: &mut Session, f: u32) -> Result<u32, Refusal>
 }
 
 // map_function_handle, import_function_if_new: the derived function that has the name of function f, imported first if there is none.
-pub fn map_function_handle(session: &mut Session, f: u32) -> Result<u32, Refusal>
+pub fn map_function_handle(session: &mut Session, f: FunctionHandle) -> Result<u32, Refusal>
     requires { Valid session.old }
-    ensures operates { Operates {A = ℕ} (map_function_handle f) session.old (refusal_of result) (value_in result) session.new }
+    ensures operates { Operates {A = ℕ} (map_function_handle f.0) session.old (refusal_of result) (value_in result) session.new }
     ensures stays { ImportStays session.old session.new }
 {
-    let r = Reference {
-        table: FUNCTIONS,
-        number: f,
-    };
-    let source = source_with(session.source, session.words, session.tags, r)?;
-    if follow_rings(
-        source.image,
-        &session.derived.view(session.sizes),
-        f as usize,
-    ) {
+    let source = source_with(
+        session.source,
+        session.words,
+        session.tags,
+        Reference::from(f),
+    )?;
+    let view = session.derived.view(session.sizes);
+    let derived = NamedDerived { view: &view };
+    if follow_rings(source, derived, f.0 as usize) {
         return Err(Refusal::UnknownRing);
     }
-    let view = session.derived.view(session.sizes);
-    if let Some(handle) = known(source.image, &view, f as usize) {
+    if let Some(handle) = known(source, derived, f.0 as usize) {
         return Ok(handle);
     }
     let room = count(source.image.words, FUNCTIONS);
@@ -122,7 +122,7 @@ pub fn map_function_handle(session: &mut Session, f: u32) -> Result<u32, Refusal
         session.special,
         session.stacks,
         session.sizes,
-        f as usize,
+        f.0 as usize,
         room - 1,
     )?;
     session.sizes = sizes;
@@ -137,10 +137,11 @@ pub fn finish_with_entries(session: &mut Session, output: &mut [u8]) -> Result<u
 {
     let set = session.source.ok_or(Refusal::NoSource)?;
     let source = set.over(session.words, session.tags);
-    if entries_ring(source.image, &session.derived.view(session.sizes)) {
+    let view = session.derived.view(session.sizes);
+    if entries_ring(source, NamedDerived { view: &view }) {
         return Err(Refusal::UnknownRing);
     }
-    // whole, and no `Snapshot::of`: that clears as many words first and then copies those in use, row by row, which is less only where few are
+    // whole, and no `Snapshot::of`, which keeps what is in use: it is promised of all words of the starts that they stay (`FinishStays`)
     let saved = Snapshot {
         starts: *session.derived.starts,
         maps: *session.derived.maps,

@@ -12,7 +12,8 @@ use Rattle.std.specs.Prelude.{Option, None, Some, Result, Err}
 use Rattle.std.specs.Option.{ok_or}
 use Rattle.base_refusals.specs.declared.Refusal.{Refusal}
 use Rattle.session_operations.specs.declared.SetSource.{SetSource}
-use Rattle.session_operations.specs.Sessions.{SameMemory}
+use Rattle.function_references.specs.Fits.{Ground}
+use Rattle.session_operations.specs.Sessions.{SameMemory, Valid}
 
 pub memory_same : (s : Session) → SameMemory s s
 memory_same s = record { words_same = refl; tags_same = refl; derived_same = arrays_same _; special_same = refl; stacks_same = refl }
@@ -28,3 +29,7 @@ no_source (Some a) e y r is q = absurd (cc)
 -- as the lemmas on a source have it
 pub set_not : {b : Bool} → b ≡ true → not b ≡ false
 set_not e = rw e
+
+-- the source that is set passed intake
+pub set_ground : {s : Session} → Valid s → (x : SetSource) → s.source ≡ Some x → Ground s.words.now s.tags.now x.n
+set_ground v x q = let L = rw q at v.session in record { source = record { taped = L.taped refl; three = (L.passes refl).numbers; four = (L.passes refl).lowers }; names = (L.passes refl).names }

@@ -21,6 +21,8 @@ use Rattle.base_refusals.specs.declared.Refusal.{Refusal}
 use Rattle.intake.proofs.Refusals.{refused_by}
 use Rattle.derive_state.specs.Source.{mod_of, Source}
 use Rattle.derive_state.specs.Held.{st_of}
+use Rattle.function_references.specs.Fits.{Ground}
+use Rattle.model.specs.Names.{named}
 use Rattle.derive_state.specs.Sizes.{Sizes}
 use Rattle.derive_imports.proofs.Sources.{mod_is, source_of}
 use Rattle.derive_source.specs.SourceSet.{SetSourceEnsures}
@@ -82,6 +84,9 @@ module _ (image w t : List ℕ) (taken : Result ℕ Refusal) (got : TakeInEnsure
 
     pub accepted_source : Source w t m
     accepted_source = source_of accepts.taped accepts.passes.numbers accepts.passes.lowers
+
+    pub accepted_ground : Ground w t m
+    accepted_ground = record { source = accepted_source; names = subst (λ x. named x ≡ true) (sym is) accepts.passes.names }
 
     passes : Passes (mod_of w m)
     passes = subst Passes (sym is) accepts.passes

@@ -11,15 +11,18 @@ use Rattle.session_operations.specs.Operations.{OperationEnsures, FinishEnsures}
 use Rattle.session_operations.specs.declared.SetSource.{SetSource}
 use Rattle.session_operations.specs.declared.Session.{Session}
 
--- ---- the source: whether one is set, its words and its offset
+-- ---- the source
+-- whether one is set
 abbrev pub is_set : Option SetSource → Bool
 is_set None = false
 is_set (Some s) = true
 
+-- how many words it has
 abbrev pub n_in : Option SetSource → ℕ
 n_in None = 0
 n_in (Some s) = s.n
 
+-- its offset in spans
 abbrev pub offset_in : Option SetSource → ℕ
 offset_in None = 0
 offset_in (Some s) = s.offset
@@ -29,10 +32,11 @@ abbrev pub Absent : Option SetSource → ℕ → ℕ → Refusal → Type 0
 Absent source c h e = ((source ≡ None) × (e ≡ NoSource)) ⊎ ((is_set source ≡ true) × (c ≤ h) × (e ≡ NumberGiven))
 
 -- ---- the session
+-- the model's session that it means
 abbrev pub meant : Session → Session'
 meant s = session_of (is_set s.source) (n_in s.source) (offset_in s.source) s.words.now s.derived.log.now s.derived.logtags.now s.derived.starts.now s.derived.maps.now s.special.now (going s.sizes)
 
--- a clause and no ghost field: that takes a proof that what it says is a proposition, and `WellFormed`, which is in `Reached`, has none
+-- a clause and no ghost field: an operation writes the arrays, then the sizes and the source that is set, and between these writes it does not hold
 pub record Valid (s : Session) : Type 0 where
   pub session : ValidSession (is_set s.source) (n_in s.source) (offset_in s.source) s.words.now s.tags.now s.derived.log.now s.derived.logtags.now s.derived.starts.now s.derived.maps.now s.derived.buckets.now s.special.now (going s.sizes)
   pub stacks : Stacks s.stacks.now (going s.sizes)
@@ -46,11 +50,13 @@ pub record SameMemory (s s' : Session) : Type 0 where
   pub stacks_same : s'.stacks.ghost_name ≡ s.stacks.ghost_name
 
 -- ---- what an operation does
+-- the session after it means what the model's operation leaves, with its refusal and its value; it is valid, in the same arrays
 pub record Operates {A : Type 0} (op : Session' → Answer A) (s : Session) (refusal : ℕ) (value : A) (s' : Session) : Type 0 where
   pub does : OperationEnsures op (meant s) refusal value (meant s')
   pub valid : Valid s'
   pub same : SameMemory s s'
 
+-- the same of a finish, whose value is the image: its bytes go to the start of the output
 pub record Finishes (op : Session' → Answer (List ℕ)) (s : Session) (refusal bytes : ℕ) (output₀ output : List ℕ) (s' : Session) : Type 0 where
   pub does : FinishEnsures (op (meant s)) (meant s) refusal bytes output₀ output (meant s')
   pub valid : Valid s'
@@ -71,7 +77,8 @@ pub record FinishStays (s : Session) (refusal : ℕ) (s' : Session) : Type 0 whe
   pub starts : s'.derived.starts.now ≡ s.derived.starts.now
   pub source : 0 < refusal → s'.source ≡ s.source
 
--- ---- what follows a session that is finished: no source, nothing mapped, no special types and no sizes, in the same arrays
+-- ---- what follows a session that is finished
+-- no source, nothing mapped, no special types and no sizes, in the same arrays
 abbrev pub renewed : Session → Session
 renewed s = record {
   source = None;

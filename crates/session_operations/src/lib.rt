@@ -1,5 +1,6 @@
 // A session in arrays of the caller, and its operations, except those on functions: each makes its tests in document 01's sequence, and where it is refused the
-// session is as it was.
+// session is as it was. They are functions of a session and no methods, as those of session_functions, another crate, have to be. Handles are of the source's records; what an import
+// answers is a number of the derived module, as C reads it.
 #![tactic(auto)]
 
 ghost use Rattle.std.specs.Prelude.{MatchResult, Some, ◌≡◌, ℕ, ◌<◌, ◌≤◌, false, length};
@@ -9,6 +10,7 @@ ghost use Rattle.model.specs.Session.{importing, rename_type, set as setOf, fini
 ghost use Rattle.base_handles.specs.Handles.{table_of, number_in};
 ghost use Rattle.derive_state.specs.Held.{Specials};
 ghost use Rattle.derive_state.specs.Sizes.{going};
+ghost use Rattle.function_references.specs.Fits.{Ground};
 ghost use Rattle.derive_finish.specs.Told.{refusal_of, bytes_in};
 ghost use Rattle.session_operations.specs.Operations.{MapSpanEnsures, RequiredEnsures};
 ghost use Rattle.session_operations.specs.Answers.{value_in, start_of, end_of};
@@ -16,13 +18,12 @@ ghost use Rattle.session_operations.specs.Sessions.{is_set, offset_in, Absent, V
 
 use base_handles::{RecordHandle, TypeHandle};
 use base_refusals::Refusal;
-use base_views::{Image, NAMES, TYPES, count};
+use base_views::{Image, NAMES, count};
 use base_words::{Tags, Words};
 use derive_finish::finish;
-use derive_imports::Reference;
 use derive_rollback::mapped_to;
 use derive_source::set_source;
-use derive_state::{DerivedMut, ShaderSource, Sizes, Special, StackRows, clear_maps};
+use derive_state::{DerivedMut, NamedSource, Reference, Sizes, Special, StackRows, clear_maps};
 use std::num::wrapping_add_u32;
 
 // A source that is set: the number of its words, and the offset of its spans.
@@ -34,10 +35,11 @@ pub struct SetSource {
 
 impl SetSource {
     // The source with these words and their classes.
-    pub fn over<'a>(self, words: &'a Words, tags: &'a Tags) -> ShaderSource<'a>
+    pub fn over<'a>(self, words: &'a Words, tags: &'a Tags) -> NamedSource<'a>
+        requires { Ground words.now tags.now self.n }
         ensures { (result.image.words.now ≡ words.now) × (result.image.tags.now ≡ tags.now) × (result.image.n ≡ self.n) × (result.offset ≡ self.offset) }
     {
-        ShaderSource {
+        NamedSource {
             image: Image {
                 words,
                 tags,
@@ -48,14 +50,15 @@ impl SetSource {
     }
 }
 
-// The source that is set, with its words and their classes, if it has a record.
+// The source that is set, with its words and their classes, if it has a record. It takes these and no session, of which a caller writes the derived module meanwhile.
 pub fn source_with<'a>(
     source: Option<SetSource>,
     words: &'a Words,
     tags: &'a Tags,
     r: Reference,
-) -> Result<ShaderSource<'a>, Refusal>
-    requires { r.table < 9 }
+) -> Result<NamedSource<'a>, Refusal>
+    requires table_bound { r.table < 9 }
+    requires passed { (s : SetSource) → source ≡ Some s → Ground words.now tags.now s.n }
     ensures { MatchResult result (λ s. (source ≡ Some (record { n = s.image.n; offset = s.offset })) × (s.image.words.now ≡ words.now) × (s.image.tags.now ≡ tags.now) × (r.number < count_at r.table words.now)) (λ e. Absent source (count_at r.table words.now) r.number e) }
 {
     let set = source.ok_or(Refusal::NoSource)?;
@@ -85,36 +88,30 @@ pub fn import(session: &mut Session, handle: RecordHandle) -> Result<u32, Refusa
     ensures stays { ImportStays session.old session.new }
     ensures stacks { session.new.stacks.now ≡ session.old.stacks.now }
 {
-    let r = Reference {
-        table: handle.section(),
-        number: handle.number(),
-    };
+    let r = Reference::from(handle);
     let source = source_with(session.source, session.words, session.tags, r)?;
-    let sizes = derive_rollback::import(source, &mut session.derived, session.sizes, r)?;
+    let sizes = derive_rollback::import(source.source(), &mut session.derived, session.sizes, r)?;
     session.sizes = sizes;
     Ok(mapped_to(session.derived.view(sizes).maps, r))
 }
 
 // rename_type: imports type h under the name with the given number.
-pub fn rename_type(session: &mut Session, h: u32, name: u32) -> Result<u32, Refusal>
+pub fn rename_type(session: &mut Session, h: TypeHandle, name: u32) -> Result<u32, Refusal>
     requires { Valid session.old }
-    ensures operates { Operates {A = ℕ} (rename_type h name) session.old (refusal_of result) (value_in result) session.new }
+    ensures operates { Operates {A = ℕ} (rename_type h.0 name) session.old (refusal_of result) (value_in result) session.new }
     ensures stays { ImportStays session.old session.new }
     ensures stacks { session.new.stacks.now ≡ session.old.stacks.now }
 {
-    let r = Reference {
-        table: TYPES,
-        number: h,
-    };
+    let r = Reference::from(h);
     let source = source_with(session.source, session.words, session.tags, r)?;
     if count(source.image.words, NAMES) <= name as usize {
         return Err(Refusal::NumberGiven);
     }
     let sizes = derive_rollback::rename_type(
-        source,
+        source.source(),
         &mut session.derived,
         session.sizes,
-        TypeHandle(h),
+        h,
         name,
     )?;
     session.sizes = sizes;
@@ -168,7 +165,12 @@ fn set_first_source(session: &mut Session, image: &[u8], offset: u32) -> Result<
     };
     let set = SetSource { n, offset };
     let source = set.over(session.words, session.tags);
-    let sizes = set_source(source, &mut session.derived, session.special, session.sizes)?;
+    let sizes = set_source(
+        source.source(),
+        &mut session.derived,
+        session.special,
+        session.sizes,
+    )?;
     session.source = Some(set);
     session.sizes = sizes;
     Ok(())
@@ -188,7 +190,12 @@ pub fn set_shader_source(session: &mut Session, image: &[u8], offset: u32) -> Re
     let n = intake::take_in(image, &mut words, &mut tags)?;
     let set = SetSource { n, offset };
     let source = set.over(&words, &tags);
-    let sizes = set_source(source, &mut session.derived, session.special, session.sizes)?;
+    let sizes = set_source(
+        source.source(),
+        &mut session.derived,
+        session.special,
+        session.sizes,
+    )?;
     *session.words = words;
     *session.tags = tags;
     session.source = Some(set);

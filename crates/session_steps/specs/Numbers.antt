@@ -5,6 +5,7 @@ use Rattle.base_refusals.specs.declared.Refusal.TheVariants as refusal
 use Rattle.session_steps.specs.declared.Operation.{Operation}
 use Rattle.session_steps.specs.declared.Operation.TheVariants as operation
 
+-- the number of an operation
 abbrev pub number_of : Operation → ℕ
 number_of operation.Set = 0
 number_of operation.Clear = 1

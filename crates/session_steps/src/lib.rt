@@ -10,7 +10,8 @@ ghost use Rattle.session_operations.specs.Sessions.{Valid, SameMemory, meant};
 ghost use Rattle.session_steps.specs.Stepped.{saying, shown, Performs, Quiet, Wrote};
 
 use base_handles::{
-    ConstantHandle, ExpressionHandle, GlobalHandle, OverrideHandle, RecordHandle, TypeHandle,
+    ConstantHandle, ExpressionHandle, FunctionHandle, GlobalHandle, OverrideHandle, RecordHandle,
+    TypeHandle,
 };
 use base_refusals::Refusal;
 use session_functions::{finish_with_entries, import_function, map_function_handle};
@@ -158,7 +159,7 @@ pub fn perform(
             let handle = RecordHandle::Type(TypeHandle(step.a));
             imported(import(session, handle))
         }
-        Operation::RenameType => imported(rename_type(session, step.a, step.b)),
+        Operation::RenameType => { imported(rename_type(session, TypeHandle(step.a), step.b)) },
         Operation::ImportConst => {
             let handle = RecordHandle::Constant(ConstantHandle(step.a));
             imported(import(session, handle))
@@ -175,9 +176,9 @@ pub fn perform(
             let handle = RecordHandle::Expression(ExpressionHandle(step.a));
             imported(import(session, handle))
         }
-        Operation::ImportFunction => imported(import_function(session, step.a)),
+        Operation::ImportFunction => imported(import_function(session, FunctionHandle(step.a))),
         Operation::ImportFunctionIfNew | Operation::MapFunctionHandle => {
-            imported(map_function_handle(session, step.a))
+            imported(map_function_handle(session, FunctionHandle(step.a)))
         }
     }
 }

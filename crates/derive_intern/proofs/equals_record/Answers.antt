@@ -11,7 +11,7 @@ use Rattle.derive_intern.proofs.equals_record.Goals.{then-n-eq0, else-n-eq0+then
 use Rattle.derive_intern.proofs.equals_record.Goals as goal
 
 pub carried-requires : goal.carried-requires
-carried-requires c = record { all = let a = c.args in let some = c.if-n-eq0.false in last_small a.source.image.words.now a.source.image.tags.now a.derived.now.log.now a.derived.now.logtags.now (went_r a.derived.now.maps.now) a.source.at a.source.end a.s a.source.stretch c.requires.0 c.requires.1 c.requires.2 (omega arith) a.source.small }
+carried-requires c = record { all = let a = c.args in let some = c.if-n-eq0.false in last_small a.original.cells.words.now a.original.cells.tags.now a.derived.now.log.now a.derived.now.logtags.now (went_r a.derived.now.maps.now) a.original.at a.original.end a.s a.original.stretch c.requires.0 c.requires.1 c.requires.2 (omega arith) a.original.small }
 
 pub returns-else-may_equal : goal.returns-else-may_equal
 returns-else-may_equal c =
@@ -19,6 +19,6 @@ returns-else-may_equal c =
     c.if-may_equal.false
     ∙ elim c.if-n-eq0.branch [
       | then-n-eq0 w ↦ absurd (let x : true ≡ false = sym (eq-eqb _ _ w.if-n-eq0.true) ∙ sym w.may_equal-is ∙ c.if-may_equal.false in search rules)
-      | else-n-eq0+then-derived-s w ↦ let some = w.if-n-eq0.false in last_not a.source.image.words.now a.source.image.tags.now a.derived.now.log.now a.derived.now.logtags.now (went_r a.derived.now.maps.now) a.source.at a.source.end a.s a.source.stretch c.requires.0 c.requires.1 c.requires.2 (omega arith) _ refl (w.if-derived-s.true ∙ c.len-n.ensures) _ w.carried.ensures _ (rw c.len-n.ensures at w.alike_cell.ensures) (sym w.may_equal-is ∙ c.if-may_equal.false)
-      | else-n-eq0+else-derived-s w ↦ compare-short a.source.image.words.now a.source.image.tags.now a.derived.now.log.now a.derived.now.logtags.now (went_r a.derived.now.maps.now) a.source.at a.source.end a.s a.source.stretch a.source.small c.requires.0 c.requires.1 c.requires.2 _ refl (λ e. w.if-derived-s.false (e ∙ sym c.len-n.ensures))
+      | else-n-eq0+then-derived-s w ↦ let some = w.if-n-eq0.false in last_not a.original.cells.words.now a.original.cells.tags.now a.derived.now.log.now a.derived.now.logtags.now (went_r a.derived.now.maps.now) a.original.at a.original.end a.s a.original.stretch c.requires.0 c.requires.1 c.requires.2 (omega arith) _ refl (w.if-derived-s.true ∙ c.len-n.ensures) _ w.carried.ensures _ (rw c.len-n.ensures at w.alike_cell.ensures) (sym w.may_equal-is ∙ c.if-may_equal.false)
+      | else-n-eq0+else-derived-s w ↦ compare-short a.original.cells.words.now a.original.cells.tags.now a.derived.now.log.now a.derived.now.logtags.now (went_r a.derived.now.maps.now) a.original.at a.original.end a.s a.original.stretch a.original.small c.requires.0 c.requires.1 c.requires.2 _ refl (λ e. w.if-derived-s.false (e ∙ sym c.len-n.ensures))
     ]

@@ -2,10 +2,11 @@ use mathlib.Core.Path.{sym, ◌∙◌}
 use Rattle.derive_snapshot.proofs.Over.{whole_of, undone}
 use Rattle.derive_snapshot.proofs.Saving.{in_use}
 use Rattle.derive_state.specs.Sizes.{going}
+use Rattle.derive_state.proofs.Sources.{source_of}
 use Rattle.derive_rollback.proofs.import.Goals as goal
 
 pub of-saved-requires : goal.of-saved-requires
-of-saved-requires c = let a = c.args in let zz = in_use a.source.image.words.now a.source.image.tags.now a.source.image.n c.requires.source a.derived.now.log.now a.derived.now.logtags.now a.derived.now.starts.now a.derived.now.maps.now a.derived.now.buckets.now (going a.ends) c.requires.valid_arrays in let v = c.view.ensures in record { starts_in_use = rw (v.2, v.5) zz.0; maps_in_use = rw v.3 zz.1 }
+of-saved-requires c = let a = c.args in let zz = in_use a.source.image.words.now a.source.image.tags.now a.source.image.n (source_of c.args.source) a.derived.now.log.now a.derived.now.logtags.now a.derived.now.starts.now a.derived.now.maps.now a.derived.now.buckets.now (going a.ends) c.requires.valid_arrays in let v = c.view.ensures in record { starts_in_use = rw (v.2, v.5) zz.0; maps_in_use = rw v.3 zz.1 }
 
 pub returns-then-is_err : goal.returns-then-is_err
 returns-then-is_err c =

@@ -1,9 +1,8 @@
-use lib.ListN.{get_or}
 use Rattle.derive_sections.proofs.Notes.{NotingT}
 use Rattle.derive_sections.proofs.appearing.Given as goal
 
 abbrev pub ghost-note_table : goal.ghost-note_table
-ghost-note_table a = get_or a.derived.now.sizes.counts 0 0
+ghost-note_table g a = g.names
 
 abbrev pub invariant-loop-t : goal.invariant-loop-t
-invariant-loop-t l = NotingT (get_or l.derived.sizes.counts 0 0) l.derived.log.now l.derived.logtags.now l.derived.starts.now l.derived.sizes.counts l.met.order l.met.places l.t l.met.count
+invariant-loop-t g l = NotingT g.names l.derived.log.now l.derived.logtags.now l.derived.starts.now l.derived.sizes.counts l.met.order l.met.places l.t l.met.count

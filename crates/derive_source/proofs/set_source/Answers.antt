@@ -6,7 +6,7 @@ use Rattle.derive_state.specs.Sizes.{going}
 use Rattle.derive_source.proofs.set_source.Goals as goal
 
 pub source_types-got-requires : goal.source_types-got-requires
-source_types-got-requires c = let a = c.args in let src = c.requires.source in let K = c.requires.valid_arrays in let P = c.requires.specials in record { source = src; valid_arrays = kept_forgotten a.derived.now.log.now a.derived.now.logtags.now a.derived.now.starts.now a.derived.now.maps.now a.derived.now.buckets.now (going a.ends) K; specials = P }
+source_types-got-requires c = let a = c.args in let K = c.requires.valid_arrays in let P = c.requires.specials in record { valid_arrays = kept_forgotten a.derived.now.log.now a.derived.now.logtags.now a.derived.now.starts.now a.derived.now.maps.now a.derived.now.buckets.now (going a.ends) K; specials = P }
 
 pub returns-then-is_err : goal.returns-then-is_err
 returns-then-is_err c =

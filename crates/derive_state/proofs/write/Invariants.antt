@@ -6,4 +6,4 @@ use Rattle.derive_state.proofs.Passes.{Writing}
 use Rattle.derive_state.proofs.write.Given as goal
 
 abbrev pub invariant-loop-j : goal.invariant-loop-j
-invariant-loop-j l = (Writing Small l.source.image.words.now l.source.image.tags.now (went_r l.maps) l.source.at l.source.end l.to l.offset l.initial.log l.initial.logtags l.log l.logtags l.j (l.to + (l.j - l.source.at)) l.u) × (l.w ≡ first_word (carried_by (went_r l.maps) l.source.image.tags.now l.source.image.words.now l.j l.source.end))
+invariant-loop-j l = (Writing Small l.original.cells.words.now l.original.cells.tags.now (went_r l.maps) l.original.at l.original.end l.to l.offset l.initial.log l.initial.logtags l.log l.logtags l.j (l.to + (l.j - l.original.at)) l.u) × (l.w ≡ first_word (carried_by (went_r l.maps) l.original.cells.tags.now l.original.cells.words.now l.j l.original.end))

@@ -9,10 +9,10 @@ pub overflow_sub-words : goal.overflow_sub-words
 overflow_sub-words c = let X = c.args.function.expressions in let h = c.requires.e_lt_k in let r = rises X h refl refl in omega arith
 
 pub returns-then-exprtop-words : goal.returns-then-exprtop-words
-returns-then-exprtop-words c = let a = c.args in append_full a.function.source.image.words.now a.function.source.image.tags.now a.function.places.now a.function.source.image.n a.function.count c.args.function.expressions a.derived.now.log.now a.derived.now.logtags.now a.derived.now.starts.now a.derived.now.maps.now a.exprmap.now a.stacks.now (going a.derived.now.sizes) a.function.source.offset a.function.base a.e c.requires.e_lt_k refl c.requires.under _ _ c.expression-piece.ensures.1 c.expression-piece.ensures.2 _ refl c.if-exprtop-words.true
+returns-then-exprtop-words c = let a = c.args in append_full a.function.source.image.words.now a.function.source.image.tags.now a.function.places.now a.function.source.image.n a.function.count c.args.function.expressions a.derived.view.now.log.now a.derived.view.now.logtags.now a.derived.view.now.starts.now a.derived.view.now.maps.now a.exprmap.now a.stacks.now (going a.derived.view.now.sizes) a.function.source.offset a.function.base a.e c.requires.e_lt_k refl c.requires.under _ _ c.expression-piece.ensures.1 c.expression-piece.ensures.2 _ refl c.if-exprtop-words.true
 
 pub write-requires : goal.write-requires
-write-requires c = let r = room c.args.function.expressions c.requires.e_lt_k c.expression-piece.ensures.1 c.expression-piece.ensures.2 c.requires.under c.if-exprtop-words.false in record { ground = rw c.expression-piece.ensures.0 c.requires.ground; bearing = c.requires.bearing; stacks = (c.requires.under.stacks_are, r.fits) }
+write-requires c = let r = room c.args.function.expressions c.requires.e_lt_k c.expression-piece.ensures.1 c.expression-piece.ensures.2 c.requires.under c.if-exprtop-words.false in record { stacks = (c.requires.under.stacks_are, r.fits) }
 
 pub overflow_add-stacks : goal.overflow_add-stacks
 overflow_add-stacks c = let r = room c.args.function.expressions c.requires.e_lt_k c.expression-piece.ensures.1 c.expression-piece.ensures.2 c.requires.under c.if-exprtop-words.false in omega arith
@@ -48,4 +48,4 @@ pub overflow_cast-result-2 : goal.overflow_cast-result-2
 overflow_cast-result-2 c = let r = room c.args.function.expressions c.requires.e_lt_k c.expression-piece.ensures.1 c.expression-piece.ensures.2 c.requires.under c.if-exprtop-words.false in omega arith
 
 pub returns : goal.returns
-returns c = let a = c.args in append_done a.function.source.image.words.now a.function.source.image.tags.now a.function.places.now a.function.source.image.n a.function.count c.args.function.expressions a.derived.now.log.now a.derived.now.logtags.now a.derived.now.starts.now a.derived.now.maps.now a.exprmap.now a.stacks.now (going a.derived.now.sizes) a.function.source.offset a.function.base a.e c.requires.e_lt_k refl c.requires.under _ _ c.expression-piece.ensures.1 c.expression-piece.ensures.2 c.if-exprtop-words.false _ (rw c.expression-piece.ensures.0 at c.write.ensures) _ refl
+returns c = let a = c.args in append_done a.function.source.image.words.now a.function.source.image.tags.now a.function.places.now a.function.source.image.n a.function.count c.args.function.expressions a.derived.view.now.log.now a.derived.view.now.logtags.now a.derived.view.now.starts.now a.derived.view.now.maps.now a.exprmap.now a.stacks.now (going a.derived.view.now.sizes) a.function.source.offset a.function.base a.e c.requires.e_lt_k refl c.requires.under _ _ c.expression-piece.ensures.1 c.expression-piece.ensures.2 c.if-exprtop-words.false _ (rw c.expression-piece.ensures.0 at c.write.ensures) _ refl

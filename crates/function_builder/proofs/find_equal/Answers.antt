@@ -12,7 +12,7 @@ pub overflow_sub-p : goal.overflow_sub-p
 overflow_sub-p c = let h = c.requires.some in omega arith
 
 pub carried_at-y-requires : goal.carried_at-y-requires
-carried_at-y-requires c = let h = c.requires.some in record { ground = c.requires.ground; bearing = c.requires.bearing; i_bound = (omega arith, omega arith) }
+carried_at-y-requires c = let h = c.requires.some in record { i_bound = (omega arith, omega arith) }
 
 pub loop-k-init : goal.loop-k-init
 loop-k-init c = let a = c.args in let q = c.requires.stacks in sieve_first a.piece.now.legible q.0 q.1 q.2 c.requires.some _ c.carried_at-y.ensures
@@ -24,7 +24,7 @@ pub bounds-piece-p : goal.bounds-piece-p
 bounds-piece-p c = let q = c.requires.stacks in sieve_word c.args.piece.now.legible q.0 q.1 q.2 c.loop-k.invariant
 
 pub next_candidate-requires : goal.next_candidate-requires
-next_candidate-requires c = let a = c.args in let q = c.requires.stacks in let z = sieve_word a.piece.now.legible q.0 q.1 q.2 c.loop-k.invariant in (seat_room a.stacks.now a.e1 (going a.derived.now.sizes) [] q.0 q.1 q.2, omega arith, c.loop-k-test.true)
+next_candidate-requires c = let a = c.args in let q = c.requires.stacks in let z = sieve_word a.piece.now.legible q.0 q.1 q.2 c.loop-k.invariant in (seat_room a.stacks.now a.e1 (going a.derived.view.now.sizes) [] q.0 q.1 q.2, omega arith, c.loop-k-test.true)
 
 pub returns-in_err-j : goal.returns-in_err-j
 returns-in_err-j c = let a = c.args in let q = c.requires.stacks in let g = sieve_hop a.piece.now.legible q.0 q.1 q.2 c.in_err-j.ensures c.loop-k.invariant in rw c.from_residual.ensures (sieve_last a.piece.now.legible q.0 q.1 q.2 g (le_refl _))
@@ -42,7 +42,7 @@ pub bounds-stacks-e1 : goal.bounds-stacks-e1
 bounds-stacks-e1 c = let a = c.args in let q = c.requires.stacks in let g = sieve_hop a.piece.now.legible q.0 q.1 q.2 c.in_ok-j.ensures.1 c.loop-k.invariant in let h = c.in_ok-j.ensures.0 in sieve_seat a.piece.now.legible q.0 q.1 q.2 g h
 
 pub expr_end-b-requires : goal.expr_end-b-requires
-expr_end-b-requires c = let a = c.args in let q = c.requires.stacks in let g = sieve_hop a.piece.now.legible q.0 q.1 q.2 c.in_ok-j.ensures.1 c.loop-k.invariant in let h = c.in_ok-j.ensures.0 in (q.0, h, seat_room a.stacks.now a.e1 (going a.derived.now.sizes) [] q.0 q.1 q.2)
+expr_end-b-requires c = let a = c.args in let q = c.requires.stacks in let g = sieve_hop a.piece.now.legible q.0 q.1 q.2 c.in_ok-j.ensures.1 c.loop-k.invariant in let h = c.in_ok-j.ensures.0 in (q.0, h, seat_room a.stacks.now a.e1 (going a.derived.view.now.sizes) [] q.0 q.1 q.2)
 
 pub overflow_sub-b : goal.overflow_sub-b
 overflow_sub-b c = let a = c.args in let q = c.requires.stacks in let g = sieve_hop a.piece.now.legible q.0 q.1 q.2 c.in_ok-j.ensures.1 c.loop-k.invariant in let h = c.in_ok-j.ensures.0 in let z = sieve_within a.piece.now.legible q.0 q.1 q.2 g h refl c.expr_end-b.ensures in omega arith
@@ -51,13 +51,13 @@ pub overflow_sub-piece : goal.overflow_sub-piece
 overflow_sub-piece c = let h = c.requires.some in omega arith
 
 pub first_difference-requires : goal.first_difference-requires
-first_difference-requires c = let a = c.args in let q = c.requires.stacks in let g = sieve_hop a.piece.now.legible q.0 q.1 q.2 c.in_ok-j.ensures.1 c.loop-k.invariant in let h = c.in_ok-j.ensures.0 in let z = sieve_within a.piece.now.legible q.0 q.1 q.2 g h refl c.expr_end-b.ensures in record { ground = c.requires.ground; bearing = c.requires.bearing; stacks = (q.0, (let w = c.if-b-a.true in omega arith)) }
+first_difference-requires c = let a = c.args in let q = c.requires.stacks in let g = sieve_hop a.piece.now.legible q.0 q.1 q.2 c.in_ok-j.ensures.1 c.loop-k.invariant in let h = c.in_ok-j.ensures.0 in let z = sieve_within a.piece.now.legible q.0 q.1 q.2 g h refl c.expr_end-b.ensures in record { stacks = (q.0, (let w = c.if-b-a.true in omega arith)) }
 
 pub returns-in_default : goal.returns-in_default
 returns-in_default c = let a = c.args in let q = c.requires.stacks in let g = sieve_hop a.piece.now.legible q.0 q.1 q.2 c.in_ok-j.ensures.1 c.loop-k.invariant in let h = c.in_ok-j.ensures.0 in let z = sieve_within a.piece.now.legible q.0 q.1 q.2 g h refl c.expr_end-b.ensures in (h, sieve_found a.piece.now.legible q.0 q.1 q.2 g h refl (sym (even_end z.0 c.if-b-a.true) ∙ c.expr_end-b.ensures) c.in_default.ensures)
 
 pub carried_at-y-requires-then-b-a : goal.carried_at-y-requires-then-b-a
-carried_at-y-requires-then-b-a c = let x = c.in-Some.ensures in record { ground = c.requires.ground; bearing = c.requires.bearing; i_bound = (x.0, x.1) }
+carried_at-y-requires-then-b-a c = let x = c.in-Some.ensures in record { i_bound = (x.0, x.1) }
 
 pub loop-k-smaller-then-b-a : goal.loop-k-smaller-then-b-a
 loop-k-smaller-then-b-a c = let h = c.in_ok-j.ensures.1.low in let t = c.loop-k-test.true in omega arith

@@ -6,7 +6,7 @@ use Rattle.derive_state.specs.Sizes.{going}
 use Rattle.function_builder.proofs.find_equal.Given as goal
 
 abbrev pub invariant-loop-k : goal.invariant-loop-k
-invariant-loop-k l = Sieving l.piece.source.image.words.now l.piece.source.image.tags.now (went_of l.piece.source.image.words.now l.piece.source.image.n l.derived.log.now l.derived.logtags.now l.derived.starts.now l.derived.maps.now (going l.derived.sizes) l.exprmap) l.piece.at l.piece.end l.stacks l.e1 (going l.derived.sizes) l.k l.p l.y
+invariant-loop-k l = Sieving l.piece.source.image.words.now l.piece.source.image.tags.now (went_of l.piece.source.image.words.now l.piece.source.image.n l.derived.view.now.log.now l.derived.view.now.logtags.now l.derived.view.now.starts.now l.derived.view.now.maps.now (going l.derived.view.now.sizes) l.exprmap) l.piece.at l.piece.end l.stacks l.e1 (going l.derived.view.now.sizes) l.k l.p l.y
 
 abbrev pub decreases-loop-k : goal.decreases-loop-k
-decreases-loop-k l = l.derived.sizes.made - l.k
+decreases-loop-k l = l.derived.view.now.sizes.made - l.k

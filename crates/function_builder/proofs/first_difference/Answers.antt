@@ -33,6 +33,6 @@ returns c =
     let tags = row a.stacks.now 1 in
     let words_long = q.0.rows 0 (omega arith) in
     let tags_long = q.0.rows 1 (omega arith) in
-    let went = went_of a.piece.now.source.image.words.now a.piece.now.source.image.n a.derived.now.log.now a.derived.now.logtags.now a.derived.now.starts.now a.derived.now.maps.now (going a.derived.now.sizes) a.exprmap.now in
+    let went = went_of a.piece.now.source.image.words.now a.piece.now.source.image.n a.derived.view.now.log.now a.derived.view.now.logtags.now a.derived.view.now.starts.now a.derived.view.now.maps.now (going a.derived.view.now.sizes) a.exprmap.now in
     let differs_here = differs a.piece.now.source.image.words.now a.piece.now.source.image.tags.now words tags went a.piece.now.at a.piece.now.end a.a b L (omega arith) q.1 words_long tags_long even in
     first_differs a.piece.now.source.image.words.now a.piece.now.source.image.tags.now words tags went a.piece.now.at a.piece.now.end a.a b L (omega arith) q.1 words_long tags_long even c.find.result (find_from_yields_List differs_here _ _ c.find.result c.find.ensures.ran (YieldsList-from_range a.piece.now.at a.piece.now.end (a.piece.now.end - a.piece.now.at) refl (omega arith)) (λ x b q k. search (rules, tests)))

@@ -10,7 +10,7 @@ use Rattle.derive_state.proofs.Passes.{following_some}
 use Rattle.function_builder.proofs.write.Goals as goal
 
 pub loop-j-init : goal.loop-j-init
-loop-j-init c = let a = c.args in let z : a.derived.now.sizes.exprtop + (a.piece.at - a.piece.at) ≡ a.derived.now.sizes.exprtop = omega arith in (rw z (lay_begin a.piece.legible c.requires.stacks.0 c.requires.stacks.1), le_refl _, c.carried_or_end-w.ensures)
+loop-j-init c = let a = c.args in let z : a.derived.view.now.sizes.exprtop + (a.piece.at - a.piece.at) ≡ a.derived.view.now.sizes.exprtop = omega arith in (rw z (lay_begin a.piece.legible c.requires.stacks.0 c.requires.stacks.1), le_refl _, c.carried_or_end-w.ensures)
 
 pub offset_bounds-stacks-q : goal.offset_bounds-stacks-q
 offset_bounds-stacks-q c = let q = lay_in c.args.piece.legible c.requires.stacks.0 c.requires.stacks.1 c.loop-j.invariant.0 c.loop-j-test.true in omega arith
@@ -29,9 +29,9 @@ loop-j-preserved c =
     let a = c.args in
     let l = c.loop-j in
     let low = l.invariant.1 in
-    let z : a.derived.now.sizes.exprtop + (l.j + 1 - a.piece.at) ≡ (a.derived.now.sizes.exprtop + (l.j - a.piece.at)) + 1 = omega (arith, low) in
+    let z : a.derived.view.now.sizes.exprtop + (l.j + 1 - a.piece.at) ≡ (a.derived.view.now.sizes.exprtop + (l.j - a.piece.at)) + 1 = omega (arith, low) in
     let S = a.piece.legible.stretch in
-    let f = following_some (went_of a.piece.source.image.words.now a.piece.source.image.n a.derived.now.log.now a.derived.now.logtags.now a.derived.now.starts.now a.derived.now.maps.now (going a.derived.now.sizes) a.exprmap.now) a.piece.source.image.tags.now a.piece.source.image.words.now l.j a.piece.end c.loop-j-test.true S.in_tags S.in_words _ refl in
+    let f = following_some (went_of a.piece.source.image.words.now a.piece.source.image.n a.derived.view.now.log.now a.derived.view.now.logtags.now a.derived.view.now.starts.now a.derived.view.now.maps.now (going a.derived.view.now.sizes) a.exprmap.now) a.piece.source.image.tags.now a.piece.source.image.words.now l.j a.piece.end c.loop-j-test.true S.in_tags S.in_words _ refl in
     (rw z (lay_next a.piece.legible c.requires.stacks.0 c.requires.stacks.1 l.invariant.0 c.loop-j-test.true _ (l.invariant.2 ∙ sym f) _ (rw c.carried_or_end-next.ensures at c.undefined_at-u.ensures) _ c.moved.ensures _ refl), omega (arith, low), c.carried_or_end-next.ensures)
 
 pub returns : goal.returns

@@ -32,13 +32,16 @@ loop-j-preserved t c =
     ]
 
 pub import_initialiser-requires : goal.import_initialiser-requires
-import_initialiser-requires t c = let a = c.args in let l = c.loop-j in let inv = l.invariant.0 in let less = c.loop-j-test.true in let q = own_found (get_or a.function.source.image.tags.now l.j 0) (get_or a.function.source.image.words.now l.j 0) c.in-Some-Own.field-0-is c.in-Some-Own.ensures in let h = c.requires.e_lt_k in let z = along-lower c.requires.valid_arrays inv less refl q.1 q.2 q.0 refl in (omega arith, (c.requires.ground, (omega arith, (along-kept c.requires.valid_arrays inv, along_under c.requires.valid_arrays inv))))
+import_initialiser-requires t c = let a = c.args in let l = c.loop-j in let inv = l.invariant.0 in let less = c.loop-j-test.true in let q = own_found (get_or a.function.source.image.tags.now l.j 0) (get_or a.function.source.image.words.now l.j 0) c.in-Some-Own.field-0-is c.in-Some-Own.ensures in let h = c.requires.e_lt_k in let z = along-lower c.requires.valid_arrays inv less refl q.1 q.2 q.0 refl in (omega arith, (omega arith, (along-kept c.requires.valid_arrays inv, along_under c.requires.valid_arrays inv)))
 
 pub returns-in_err-got-in-Some-Own : goal.returns-in_err-got-in-Some-Own
 returns-in_err-got-in-Some-Own t c = let p = err_from_is_err_and c.from_residual-in_err-got-in-Some-Own.result c.from_residual-in_err-got-in-Some-Own.ensures.1 in rw (p.1, p.2) (record { does = let a = c.args in let l = c.loop-j in let inv = l.invariant.0 in let less = c.loop-j-test.true in let q = own_found (get_or a.function.source.image.tags.now l.j 0) (get_or a.function.source.image.words.now l.j 0) c.in-Some-Own.field-0-is c.in-Some-Own.ensures in unique_full c.args.function.expressions a.function.source.image.n a.function.source.offset refl c.requires.valid_arrays c.requires.under c.requires.e_lt_k c.if-exprmap-e-ne0.false c.expression-piece.ensures.1 c.expression-piece.ensures.2 inv less (along_own c.requires.valid_arrays inv less refl q.1 q.2 q.0 refl c.in_err-got-in-Some-Own.ensures.does) refl; same = arrays_then c.loop-j.invariant.1 c.in_err-got-in-Some-Own.ensures.same })
 
+pub invariant_of-merge : goal.invariant_of-merge
+invariant_of-merge t c = let inv = c.loop-j.invariant.0 in let K = along-kept c.requires.valid_arrays inv in let v = c.view.ensures in record { bearing = rw (v.0, v.1, v.2, v.5) (bearing K) }
+
 pub merge-requires : goal.merge-requires
-merge-requires t c = let inv = c.loop-j.invariant.0 in let K = along-kept c.requires.valid_arrays inv in let v = c.view.ensures in record { ground = c.requires.ground; bearing = rw (v.0, v.1, v.2, v.5) (bearing K); e_lt_k = c.requires.e_lt_k; under = rw v.5 (along_under c.requires.valid_arrays inv) }
+merge-requires t c = let inv = c.loop-j.invariant.0 in let K = along-kept c.requires.valid_arrays inv in let v = c.view.ensures in record { e_lt_k = c.requires.e_lt_k; under = rw v.5 (along_under c.requires.valid_arrays inv) }
 
 pub returns : goal.returns
 returns t c = let v = c.view.ensures in record { does = let a = c.args in unique_done c.args.function.expressions a.function.source.image.n a.function.source.offset refl c.requires.valid_arrays c.requires.under c.requires.e_lt_k c.if-exprmap-e-ne0.false c.expression-piece.ensures.1 c.expression-piece.ensures.2 c.loop-j.invariant.0 c.loop-j-test.false (rw (v.0, v.1, v.2, v.3, v.5) at c.merge.ensures); same = c.loop-j.invariant.1 }

@@ -3,7 +3,7 @@ use mathlib.Core.Path.{refl, ◌∙◌}
 use native.Mathlib.Omega.{arith}
 use borrow.Author.Tests.{tests}
 use Rattle.std.specs.Prelude.{None, Some}
-use Rattle.std.proofs.Common.{rules, ◌<◌, ◌-◌}
+use Rattle.std.proofs.Common.{rules, ◌-◌}
 use Rattle.std.proofs.lemmas.Iterator.{YieldsList-from_range}
 use Rattle.std.proofs.lemmas.Iterator.Search.{find_from_yields_List}
 use Rattle.function_words.proofs.Words.{compare-last, compare_some, compare-other}

@@ -16,8 +16,11 @@ offset_bounds-exprmap-y c = let f = c.args.function.expressions.few in let l = c
 pub bounds-exprmap-y : goal.bounds-exprmap-y
 bounds-exprmap-y c = let f = c.args.function.expressions.few in let l = c.requires.b_le_k in let h = c.loop-y-test.true in omega arith
 
+pub invariant_of-append : goal.invariant_of-append
+invariant_of-append c = let q = c.requires.by_index in let R = c.loop-y.invariant.ranging q.0 q.1 in let l = c.requires.b_le_k in let h = c.loop-y-test.true in record { bearing = bearing (R.makes.kept R.going) }
+
 pub append-requires : goal.append-requires
-append-requires c = let q = c.requires.by_index in let R = c.loop-y.invariant.ranging q.0 q.1 in let l = c.requires.b_le_k in let h = c.loop-y-test.true in record { ground = c.requires.ground; bearing = bearing (R.makes.kept R.going); e_lt_k = omega arith; under = R.makes.under R.going }
+append-requires c = let q = c.requires.by_index in let R = c.loop-y.invariant.ranging q.0 q.1 in let l = c.requires.b_le_k in let h = c.loop-y-test.true in record { e_lt_k = omega arith; under = R.makes.under R.going }
 
 pub returns-in_err-e : goal.returns-in_err-e
 returns-in_err-e c = let p = err_from_is_err_and c.from_residual.result c.from_residual.ensures.1 in refused c.from_residual.result p.0 p.1 (append_full c.loop-y.invariant c.args.function.expressions c.requires.b_le_k c.loop-y-test.true c.if-exprmap-y-eq0.true c.in_err-e.ensures refl)

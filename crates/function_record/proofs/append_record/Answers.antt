@@ -52,17 +52,8 @@ bounds-starts-t c = let a = c.args in let r = room a.tags.now (going a.before) (
 pub bounds-starts-count : goal.bounds-starts-count
 bounds-starts-count c = let a = c.args in seated (get_or a.ends.counts a.t 0) a.limit c.requires.t_bound.2 c.if-count-limit.false c.requires.t_bound.1
 
-pub overflow_add-c : goal.overflow_add-c
-overflow_add-c c = let a = c.args in let r = room a.tags.now (going a.before) (going a.ends) a.place.start a.place.exprs a.place.body a.place.end a.head c.requires.s_le_exprs c.requires.t_bound.3 c.requires.stacks c.words_left.result c.words_left.ensures c.if-words_left-size.false in let u = c.requires.t_bound in omega (arith, r)
-
-pub overflow_cast-c : goal.overflow_cast-c
-overflow_cast-c c = let a = c.args in let r = room a.tags.now (going a.before) (going a.ends) a.place.start a.place.exprs a.place.body a.place.end a.head c.requires.s_le_exprs c.requires.t_bound.3 c.requires.stacks c.words_left.result c.words_left.ensures c.if-words_left-size.false in let u = c.requires.t_bound in omega (arith, r)
-
-pub offset_bounds-c-t : goal.offset_bounds-c-t
-offset_bounds-c-t c = let a = c.args in let r = room a.tags.now (going a.before) (going a.ends) a.place.start a.place.exprs a.place.body a.place.end a.head c.requires.s_le_exprs c.requires.t_bound.3 c.requires.stacks c.words_left.result c.words_left.ensures c.if-words_left-size.false in let u = c.requires.t_bound in omega (arith, r)
-
-pub bounds-c-t : goal.bounds-c-t
-bounds-c-t c = let a = c.args in let r = room a.tags.now (going a.before) (going a.ends) a.place.start a.place.exprs a.place.body a.place.end a.head c.requires.s_le_exprs c.requires.t_bound.3 c.requires.stacks c.words_left.result c.words_left.ensures c.if-words_left-size.false in let u = c.requires.t_bound in omega (arith, r)
+pub with_record-requires : goal.with_record-requires
+with_record-requires c = let a = c.args in let r = room a.tags.now (going a.before) (going a.ends) a.place.start a.place.exprs a.place.body a.place.end a.head c.requires.s_le_exprs c.requires.t_bound.3 c.requires.stacks c.words_left.result c.words_left.ensures c.if-words_left-size.false in let h = c.words_left.ensures in let g = c.if-words_left-size.false in (omega arith, omega (arith, r), seated (get_or a.ends.counts a.t 0) a.limit c.requires.t_bound.2 c.if-count-limit.false c.requires.t_bound.1)
 
 pub returns : goal.returns
-returns c = let a = c.args in let q = c.requires.loglen_bound in closes a.tags.now a.stacks.now (going a.before) (going a.ends) a.place.start a.place.exprs a.place.body a.place.end a.head c.requires.s_le_exprs c.requires.t_bound.3 c.requires.stacks c.requires.body_len a.log.now a.logtags.now c.copy_expressions.ensures.log_after c.copy_carried.ensures.log_after c.copy_expressions-2.ensures.log_after c.copy_names.ensures.log_after c.copy_carried-2.ensures.log_after c.copy_expressions.ensures.logtags_after c.copy_carried.ensures.logtags_after c.copy_expressions-2.ensures.logtags_after c.copy_names.ensures.logtags_after c.copy_carried-2.ensures.logtags_after a.limit a.t a.starts.now c.requires.t_bound.2 c.if-count-limit.false q.1 q.2 c.words_left.result c.words_left.ensures c.if-words_left-size.false
+returns c = let a = c.args in let q = c.requires.loglen_bound in rw c.with_record.ensures (closes a.tags.now a.stacks.now (going a.before) (going a.ends) a.place.start a.place.exprs a.place.body a.place.end a.head c.requires.s_le_exprs c.requires.t_bound.3 c.requires.stacks c.requires.body_len a.log.now a.logtags.now c.copy_expressions.ensures.log_after c.copy_carried.ensures.log_after c.copy_expressions-2.ensures.log_after c.copy_names.ensures.log_after c.copy_carried-2.ensures.log_after c.copy_expressions.ensures.logtags_after c.copy_carried.ensures.logtags_after c.copy_expressions-2.ensures.logtags_after c.copy_names.ensures.logtags_after c.copy_carried-2.ensures.logtags_after a.limit a.t a.starts.now c.requires.t_bound.2 c.if-count-limit.false q.1 q.2 c.words_left.result c.words_left.ensures c.if-words_left-size.false)

@@ -14,9 +14,9 @@ returns c =
     let S = c.requires.0 in
     c.undefined_at.ensures
     ∙ elim c.if-s-eq-SPAN.branch [
-      | then-s-eq-SPAN+then-i-end w ↦ ap (λ (x : ℕ). undefined_at (target (get_or a.image.tags.now a.i 0)) (get_or a.image.words.now a.i 0) x a.u) (w.next-is ∙ first_some a.image.tags.now a.image.words.now a.i a.end w.if-i-end.true S.in_tags S.in_words)
+      | then-s-eq-SPAN+then-i-end w ↦ ap (λ (x : ℕ). undefined_at (target (get_or a.cells.tags.now a.i 0)) (get_or a.cells.words.now a.i 0) x a.u) (w.next-is ∙ first_some a.cells.tags.now a.cells.words.now a.i a.end w.if-i-end.true S.in_tags S.in_words)
       | else-s-eq-SPAN w ↦ elim w.else-s-eq-SPAN.branch [
-        | else-s-eq-SPAN-via-then-s-eq-SPAN+else-i-end v ↦ ap (λ (x : ℕ). undefined_at (target (get_or a.image.tags.now a.i 0)) (get_or a.image.words.now a.i 0) x a.u) (w.next-is ∙ first-none a.image.tags.now a.image.words.now a.i a.end v.if-i-end.false)
-        | else-s-eq-SPAN-via-else-s-eq-SPAN v ↦ sym (undefined-other (get_or a.image.tags.now a.i 0) (get_or a.image.words.now a.i 0) _ a.u v.if-s-eq-SPAN.false) ∙ undefined-other (get_or a.image.tags.now a.i 0) (get_or a.image.words.now a.i 0) _ a.u v.if-s-eq-SPAN.false
+        | else-s-eq-SPAN-via-then-s-eq-SPAN+else-i-end v ↦ ap (λ (x : ℕ). undefined_at (target (get_or a.cells.tags.now a.i 0)) (get_or a.cells.words.now a.i 0) x a.u) (w.next-is ∙ first-none a.cells.tags.now a.cells.words.now a.i a.end v.if-i-end.false)
+        | else-s-eq-SPAN-via-else-s-eq-SPAN v ↦ sym (undefined-other (get_or a.cells.tags.now a.i 0) (get_or a.cells.words.now a.i 0) _ a.u v.if-s-eq-SPAN.false) ∙ undefined-other (get_or a.cells.tags.now a.i 0) (get_or a.cells.words.now a.i 0) _ a.u v.if-s-eq-SPAN.false
       ]
     ]

@@ -3,5 +3,5 @@ use lib.ListN.{get_or}
 use Rattle.intake_blocks.proofs.Answers.{Skipping}
 use Rattle.intake_blocks.proofs.skip.Given as goal
 
-abbrev pub invariant-loop-n : goal.invariant-loop-n
-invariant-loop-n l = Skipping l.words (get_or l.words l.at 0) (l.at + 1) l._n l.i
+abbrev pub invariant-loop : goal.invariant-loop
+invariant-loop l = Skipping l.words (get_or l.words l.at 0) (l.at + 1) l.counter l.i

@@ -1,28 +1,55 @@
 -- `intake_fields::brings` meets its contract.
-use Rattle.std.proofs.Common.{rules, arith, ◌∙◌}
+use Rattle.std.proofs.Common.{arith, ◌∙◌, ◌<◌, ◌≤◌}
+use mathlib.Core.Logic.{◌⊎◌, inl, inr}
 use Rattle.intake_fields.specs.Rows.{SIZE}
 use Rattle.intake_fields.proofs.Rows.{brings_over, brings_list, brings_block, brings_none, in_group, brings_row}
+use Rattle.intake_fields.proofs.brings.Goals.{in_default-via-then-s-lt122, in_default-via-else-s-lt122+else-s-lt124}
 use Rattle.intake_fields.proofs.brings.Goals as goal
 
-pub returns-then-s-eq-BLOCK : goal.returns-then-s-eq-BLOCK
-returns-then-s-eq-BLOCK c = brings_block c.args.s c.args.w _ _ c.requires.le_s.0 c.requires.le_s.1 c.pair-from.ensures.row_or_group c.pair-from.ensures.limit_or_count c.then-s-eq-BLOCK.either
+pub returns-in-122 : goal.returns-in-122
+returns-in-122 c = let k = c.in-122 in brings_block c.args.s c.args.w _ _ c.requires.le_s.0 c.requires.le_s.1 c.pair-from.ensures.row_or_group c.pair-from.ensures.limit_or_count (omega (arith, k)) (omega (arith, k))
 
-pub returns-then-w-most : goal.returns-then-w-most
-returns-then-w-most c = brings_list c.args.s c.args.w _ _ c.requires.le_s.0 c.requires.le_s.1 c.pair-from.ensures.row_or_group c.pair-from.ensures.limit_or_count c.if-s-lt-TYPE_KIND.true c.if-w-most.true
+pub returns-in-0-to-114 : goal.returns-in-0-to-114
+returns-in-0-to-114 c = let k = c.in-0-to-114 in brings_list c.args.s c.args.w _ _ c.requires.le_s.0 c.requires.le_s.1 c.pair-from.ensures.row_or_group c.pair-from.ensures.limit_or_count (omega (arith, k)) c.if-w-most.true
 
-pub returns-else-w-most : goal.returns-else-w-most
-returns-else-w-most c = search (brings_over, rules)
+pub returns-in-0-to-114-2 : goal.returns-in-0-to-114-2
+returns-in-0-to-114-2 c = let k = c.in-0-to-114 in brings_over c.args.s c.args.w _ _ c.requires.le_s.0 c.requires.le_s.1 c.pair-from.ensures.row_or_group c.pair-from.ensures.limit_or_count (omega (arith, k)) c.if-w-most.false
 
-pub returns-then-most-w : goal.returns-then-most-w
-returns-then-most-w c = search (brings_none, rules)
+pub returns-in_default-2 : goal.returns-in_default-2
+returns-in_default-2 c =
+    let out : (c.args.s < 122) ⊎ (124 ≤ c.args.s) = elim c.in_default.branch [
+      | in_default-via-then-s-lt122 w ↦ inl (omega (arith, w))
+      | in_default-via-else-s-lt122+else-s-lt124 w ↦ inr (omega (arith, w))
+    ] in
+    let low : 115 ≤ c.args.s = omega arith in
+    brings_none c.args.s c.args.w _ _ c.requires.le_s.0 c.requires.le_s.1 c.pair-from.ensures.row_or_group c.pair-from.ensures.limit_or_count low out c.requires.not_length c.if-w-most-2.false
 
 pub overflow_add-from : goal.overflow_add-from
 unfolding SIZE
-overflow_add-from c = let h = in_group c.args.s c.args.w _ _ c.requires.le_s.0 c.requires.le_s.1 c.pair-from.ensures.row_or_group c.pair-from.ensures.limit_or_count c.if-s-lt-TYPE_KIND.false c.if-s-eq-BLOCK.false c.if-s-eq-CASES.false c.requires.not_length c.if-most-w.false in omega arith
+overflow_add-from c =
+    let out : (c.args.s < 122) ⊎ (124 ≤ c.args.s) = elim c.in_default.branch [
+      | in_default-via-then-s-lt122 w ↦ inl (omega (arith, w))
+      | in_default-via-else-s-lt122+else-s-lt124 w ↦ inr (omega (arith, w))
+    ] in
+    let low : 115 ≤ c.args.s = omega arith in
+    let h = in_group c.args.s c.args.w _ _ c.requires.le_s.0 c.requires.le_s.1 c.pair-from.ensures.row_or_group c.pair-from.ensures.limit_or_count low out c.requires.not_length c.if-w-most-2.true in
+    omega (arith, h)
 
 pub entry-requires : goal.entry-requires
 unfolding SIZE
-entry-requires c = search (in_group, rules)
+entry-requires c =
+    let out : (c.args.s < 122) ⊎ (124 ≤ c.args.s) = elim c.in_default.branch [
+      | in_default-via-then-s-lt122 w ↦ inl (omega (arith, w))
+      | in_default-via-else-s-lt122+else-s-lt124 w ↦ inr (omega (arith, w))
+    ] in
+    let low : 115 ≤ c.args.s = omega arith in
+    in_group c.args.s c.args.w _ _ c.requires.le_s.0 c.requires.le_s.1 c.pair-from.ensures.row_or_group c.pair-from.ensures.limit_or_count low out c.requires.not_length c.if-w-most-2.true
 
-pub returns : goal.returns
-returns c = brings_row c.args.s c.args.w _ _ c.requires.le_s.0 c.requires.le_s.1 c.pair-from.ensures.row_or_group c.pair-from.ensures.limit_or_count c.if-s-lt-TYPE_KIND.false c.if-s-eq-BLOCK.false c.if-s-eq-CASES.false c.requires.not_length c.from.result (c.from.ensures ∙ c.entry.ensures) c.if-most-w.false
+pub returns-in_default : goal.returns-in_default
+returns-in_default c =
+    let out : (c.args.s < 122) ⊎ (124 ≤ c.args.s) = elim c.in_default.branch [
+      | in_default-via-then-s-lt122 w ↦ inl (omega (arith, w))
+      | in_default-via-else-s-lt122+else-s-lt124 w ↦ inr (omega (arith, w))
+    ] in
+    let low : 115 ≤ c.args.s = omega arith in
+    brings_row c.args.s c.args.w _ _ c.requires.le_s.0 c.requires.le_s.1 c.pair-from.ensures.row_or_group c.pair-from.ensures.limit_or_count low out c.requires.not_length c.from.result (c.from.ensures ∙ c.entry.ensures) c.if-w-most-2.true

@@ -4,17 +4,17 @@ use Rattle.intake_initialisers.proofs.Visiting.{found_numbers}
 use Rattle.intake_initialisers.proofs.Reaching.{init_locals, init_exprs, init-after, init-end, init-count, init_most, init-empty, init_few, init-none, init_reach, init_done}
 use Rattle.intake_initialisers.proofs.initialised.Goals as goal
 
-pub offset_bounds-image-locals : goal.offset_bounds-image-locals
-offset_bounds-image-locals c = omega (arith, init_locals _ _ _ _ _ c.requires)
+pub offset_bounds-cells-locals : goal.offset_bounds-cells-locals
+offset_bounds-cells-locals c = omega (arith, init_locals _ _ _ _ _ c.requires)
 
-pub bounds-image-locals : goal.bounds-image-locals
-bounds-image-locals c = init_locals _ _ _ _ _ c.requires
+pub bounds-cells-locals : goal.bounds-cells-locals
+bounds-cells-locals c = init_locals _ _ _ _ _ c.requires
 
-pub offset_bounds-image-exprs : goal.offset_bounds-image-exprs
-offset_bounds-image-exprs c = omega (arith, init_exprs _ _ _ _ _ c.requires)
+pub offset_bounds-cells-exprs : goal.offset_bounds-cells-exprs
+offset_bounds-cells-exprs c = omega (arith, init_exprs _ _ _ _ _ c.requires)
 
-pub bounds-image-exprs : goal.bounds-image-exprs
-bounds-image-exprs c = init_exprs _ _ _ _ _ c.requires
+pub bounds-cells-exprs : goal.bounds-cells-exprs
+bounds-cells-exprs c = init_exprs _ _ _ _ _ c.requires
 
 pub returns-then-count-eq0 : goal.returns-then-count-eq0
 returns-then-count-eq0 c = init-empty _ _ _ _ _ c.requires _ _ refl refl c.if-count-eq0.true

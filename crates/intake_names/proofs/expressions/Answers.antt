@@ -9,14 +9,14 @@ use Rattle.intake_names.proofs.expressions.Goals.{then-s-eq-NAMED, else-s-eq-NAM
 pub loop-j-init : goal.loop-j-init
 loop-j-init c = marked_all _ _ _ _ c.requires.stretch c.requires.each
 
-pub bounds-image-j : goal.bounds-image-j
-bounds-image-j c = let p = c.requires.stretch in omega arith
+pub bounds-cells-j : goal.bounds-cells-j
+bounds-cells-j c = let p = c.requires.stretch in omega arith
 
-pub offset_bounds-image-j : goal.offset_bounds-image-j
-offset_bounds-image-j c = let p = c.requires.stretch in search rules
+pub offset_bounds-cells-j : goal.offset_bounds-cells-j
+offset_bounds-cells-j c = let p = c.requires.stretch in search rules
 
-pub bounds-image-j-in-loop-j : goal.bounds-image-j-in-loop-j
-bounds-image-j-in-loop-j c = let p = c.requires.stretch in omega arith
+pub bounds-cells-j-in-loop-j : goal.bounds-cells-j-in-loop-j
+bounds-cells-j-in-loop-j c = let p = c.requires.stretch in omega arith
 
 pub returns-then-unnamed : goal.returns-then-unnamed
 returns-then-unnamed c = unnamed_fails _ _ _ _ c.requires.stretch _ _ _ _ c.loop-j.invariant c.loop-j-test.true _ c.unnamed.ensures c.if-unnamed.true

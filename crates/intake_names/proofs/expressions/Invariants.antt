@@ -5,4 +5,4 @@ use Rattle.intake_names.proofs.Steps.{Marked}
 use Rattle.intake_names.proofs.expressions.Given as goal
 
 abbrev pub invariant-loop-j : goal.invariant-loop-j
-invariant-loop-j l = Marked l.image.words.now l.image.tags.now l.end (marking (between l.image.tags.now l.image.words.now l.at l.end) 0 NONE) l.marks l.before l.j
+invariant-loop-j l = Marked l.cells.words.now l.cells.tags.now l.end (marking (between l.cells.tags.now l.cells.words.now l.at l.end) 0 NONE) l.marks l.before l.j

@@ -7,7 +7,7 @@ pub loop-f-init : goal.loop-f-init
 loop-f-init c = begin _ _ c.requires.no_calls
 
 pub function-requires : goal.function-requires
-function-requires c = record { tape = c.requires.tape; known = c.requires.known; i_bound = omega (arith, c.count-f-end.ensures.0) }
+function-requires c = record { known = c.requires.known; i_bound = omega (arith, c.count-f-end.ensures.0) }
 
 pub loop-f-preserved : goal.loop-f-preserved
 loop-f-preserved c = again c.loop-f.invariant (omega (arith, c.count-f-end.ensures.0)) c.function.ensures

@@ -11,6 +11,5 @@ use Rattle.redirect_words.proofs.find.Goals as goal
 pub returns : goal.returns
 returns c =
     let a = c.args in
-    let words = a.image.words.now in
-    let test = has_name words a.image.tags.now a.image.n a.name in
-    finds words a.image.tags.now a.image.n a.name c.count.result c.count.ensures.0 c.find.result (find_from_yields_List test _ _ c.find.result c.find.ensures.ran (YieldsList-from_range 0 c.count.result c.count.result refl (omega arith)) (λ x b q k. search (rules, tests))) c.map.result _ c.map.ensures.cases (λ j h p. search rules)
+    let test = has_name a.image a.name in
+    finds a.image a.name c.count.result c.count.ensures.0 c.find.result (find_from_yields_List test _ _ c.find.result c.find.ensures.ran (YieldsList-from_range 0 c.count.result c.count.result refl (omega arith)) (λ x b q k. search (rules, tests))) c.map.result _ c.map.ensures.cases (λ j h p. search rules)

@@ -9,10 +9,10 @@ pub returns-then-image-x-eq0 : goal.returns-then-image-x-eq0
 returns-then-image-x-eq0 c = search (both-none, rules)
 
 pub bounds-image-x-else-image-x-eq0 : goal.bounds-image-x-else-image-x-eq0
-bounds-image-x-else-image-x-eq0 c = type_a c.args.image.words.now c.args.image.tags.now c.args.image.n c.args.original.0 c.args.replacement.0 c.requires.tape c.requires.bounds.0 c.requires.bounds.1 c.returns_at-x.result c.returns_at-y.result c.returns_at-x.ensures.0 c.returns_at-y.ensures.0 c.if-image-x.true c.if-image-x-eq0.false
+bounds-image-x-else-image-x-eq0 c = type_a c.args.image c.args.original c.args.replacement c.requires.0 c.requires.1 c.returns_at-x.result c.returns_at-y.result c.returns_at-x.ensures.0 c.returns_at-y.ensures.0 c.if-image-x.true c.if-image-x-eq0.false
 
 pub bounds-image-y-else-image-x-eq0 : goal.bounds-image-y-else-image-x-eq0
-bounds-image-y-else-image-x-eq0 c = type_b c.args.image.words.now c.args.image.tags.now c.args.image.n c.args.original.0 c.args.replacement.0 c.requires.tape c.requires.bounds.0 c.requires.bounds.1 c.returns_at-x.result c.returns_at-y.result c.returns_at-x.ensures.0 c.returns_at-y.ensures.0 c.if-image-x.true c.if-image-x-eq0.false
+bounds-image-y-else-image-x-eq0 c = type_b c.args.image c.args.original c.args.replacement c.requires.0 c.requires.1 c.returns_at-x.result c.returns_at-y.result c.returns_at-x.ensures.0 c.returns_at-y.ensures.0 c.if-image-x.true c.if-image-x-eq0.false
 
 pub returns-else-image-x-eq0 : goal.returns-else-image-x-eq0
 returns-else-image-x-eq0 c = search (types_decide, rules)

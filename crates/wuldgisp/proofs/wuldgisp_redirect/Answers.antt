@@ -7,4 +7,4 @@ pub functions_answer-requires : goal.functions_answer-requires
 functions_answer-requires c = search (number_asks, rules)
 
 pub returns : goal.returns
-returns c = search (packs, rules)
+returns c = packs _ _ _ _ c.redirect_function.ensures _ c.functions_answer.ensures

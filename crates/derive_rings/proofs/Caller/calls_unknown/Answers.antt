@@ -13,7 +13,6 @@ use Rattle.derive_rings.proofs.Caller.calls_unknown.Goals as goal
 pub any-requires-clause-callable : goal.any-requires-clause-callable
 any-requires-clause-callable c =
     serves_from_Range (λ x q k. search (rules, tests)) (λ x lo hi.
-    let r = c.requires in
     let s = c.args.self.scannable in
     let inside : x < 16384 = omega (arith, s.within) in
     let called = low s x lo hi in
@@ -22,5 +21,5 @@ any-requires-clause-callable c =
 pub returns : goal.returns
 returns c =
     let a = c.args in
-    let p = (unknown_by a.self.image.words.now a.self.image.n a.derived.now.log.now a.derived.now.logtags.now a.derived.now.starts.now (going a.derived.now.sizes)) in
-    any_from_yields_List (calls_p a.self.image.words.now a.self.image.tags.now p) _ _ c.any.result c.any.ensures.ran (YieldsList-from_range a.self.at a.self.end (a.self.end - a.self.at) refl (omega arith)) (λ x b q k. search (rules, tests)) ∙ asks a.self.scannable p
+    let p = (unknown_by a.self.source.image.words.now a.self.source.image.n a.derived.view.now.log.now a.derived.view.now.logtags.now a.derived.view.now.starts.now (going a.derived.view.now.sizes)) in
+    any_from_yields_List (calls_p a.self.source.image.words.now a.self.source.image.tags.now p) _ _ c.any.result c.any.ensures.ran (YieldsList-from_range a.self.at a.self.end (a.self.end - a.self.at) refl (omega arith)) (λ x b q k. search (rules, tests)) ∙ asks a.self.scannable p

@@ -16,8 +16,8 @@ bounds-self-self c = reach_list _ _ _ _ _ c.loop-self.invariant c.requires c.loo
 pub bounds-starts-x : goal.bounds-starts-x
 bounds-starts-x c = omega (arith, reach_start _ _ _ _ _ c.loop-self.invariant c.requires c.loop-self-test.true _ refl)
 
-pub bounds-image-at : goal.bounds-image-at
-bounds-image-at c = reach_at _ _ _ _ _ c.loop-self.invariant c.requires c.loop-self-test.true _ refl _ refl
+pub bounds-cells-at : goal.bounds-cells-at
+bounds-cells-at c = reach_at _ _ _ _ _ c.loop-self.invariant c.requires c.loop-self-test.true _ refl _ refl
 
 pub returns-then-not-constant : goal.returns-then-not-constant
 returns-then-not-constant c = reach_barred _ _ _ _ _ c.loop-self.invariant c.requires c.loop-self-test.true _ refl _ refl _ c.constant.ensures (ap not c.if-not-constant.true) _
