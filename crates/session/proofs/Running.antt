@@ -1,15 +1,14 @@
 -- The steps in sequence: what is left from here is the whole.
 use mathlib.Core.Path.{◌≡◌, refl, sym, ap, ◌∙◌, subst}
 use mathlib.Core.Bool.{Bool, true, false}
-use mathlib.Core.List.{List, [], ◌∷◌, ◌++◌, append_assoc}
+use mathlib.Core.List.{List, [], ◌∷◌}
 use Prim.Native.Nat.{ℕ, zero, suc, ◌+◌, ◌-◌, ◌*◌, ◌%◌, ◌≤◌, ◌<◌, min}
-use native.Mathlib.Nat.{le-add_right}
+use native.Mathlib.Nat.{add-zero}
 use native.Mathlib.Omega.{arith}
 use lib.Dec.{ltb}
-use lib.ListN.{length, get_or, set, take, drop, length-take, length-drop, length-set}
-use lib.Seq.{sets, sets-eq, set_out, drop-cons, length-sets, length-take-le}
+use lib.ListN.{length, get_or, set, take, drop, length-take, length-drop, length-set, drop_of_length-le}
+use lib.Seq.{sets, set_out, slice, slice-cons, drop-cons, length-sets}
 use borrow.Author.Tests.{ltb-true, ltb-false}
-use borrow.Rule.Slice.PartMut.{put_mid, Post-is}
 use Rattle.base_words.specs.Words.{bytes_of}
 use Rattle.model.specs.Session.{Session, new}
 use Rattle.model.specs.Steps.{Said, Operation, operations, sets-source, clears_source, maps_span, types, renames, constants, overrides, globals, expressions, functions, new_functions, handles, required, finishes, finishes_entries, unknown, perform, part, run, answers_of, output_of, first_refused, session}
@@ -97,20 +96,33 @@ sets_cut [] l i (suc n) h = refl
 sets_cut (a ∷ vs) l i zero h = sym (sets_past (a ∷ vs) l i (omega arith))
 sets_cut (a ∷ vs) l i (suc n) h = sets_cut vs (set l i a) (suc i) n (omega (arith, length-set l i a))
 
-pub told : (vs l part : List ℕ) (at f n : ℕ) → f ≡ min at (length l) → n ≡ min (length vs) (length l - f) → part ≡ take n vs → put_mid f (f + n - f) l part ≡ sets l at vs
-told vs l part at f n hf hn taken =
-    let long : f + length (take n vs) ≡ f + n = ap (λ (k : ℕ). f + k) (length-take-le n vs (omega (arith, hn))) in
-    ap (put_mid f (f + n - f) l) taken
-    ∙ ap (λ (r : List ℕ). take f l ++ (take n vs ++ r)) (Post-is f (f + n) l (le-add_right f n))
-    ∙ sym (append_assoc (take f l) (take n vs) (drop (f + n) l))
-    ∙ ap (λ (k : ℕ). take f l ++ take n vs ++ drop k l) (sym long)
-    ∙ sym (sets-eq (take n vs) l f (omega (arith, hf, hn, long)))
-    ∙ sets_cut vs l f n (omega (arith, hn))
-    ∙ go (ltb (length l) at) refl
-  where
-    go : (b : Bool) → ltb (length l) at ≡ b → sets l f vs ≡ sets l at vs
-    go true e = let h = ltb-true (length l) at e in sets_past vs l f (omega (arith, hf, h)) ∙ sym (sets_past vs l at (omega (arith, h)))
-    go false e = let h = ltb-false (length l) at e in let k : f ≡ at = omega (arith, hf, h) in ap (λ (i : ℕ). sets l i vs) k
+-- what is left to write from here is the whole
+pub record Telling (vs l : List ℕ) (f n : ℕ) (out : List ℕ) (j : ℕ) : Type 0 where
+  pub within : j ≤ n
+  pub long : length out ≡ length l
+  pub same : sets out (f + j) (slice j n vs) ≡ sets l f (slice 0 n vs)
+
+module _ (vs l : List ℕ) (f n : ℕ) where
+  pub telling_begin : Telling vs l f n l 0
+  telling_begin = record { within = omega arith; long = refl; same = rw (add-zero f) }
+
+  module _ (out : List ℕ) (j : ℕ) (inv : Telling vs l f n out j) where
+    pub telling_next : n ≤ length vs → j < n → Telling vs l f n (set out (f + j) (get_or vs j 0)) (j + 1)
+    telling_next k h =
+        let e = slice-cons j n vs 0 h k in
+        let y : j + 1 ≡ suc j = omega arith in
+        let z : f + (j + 1) ≡ suc (f + j) = omega arith in
+        record { within = omega arith; long = length-set out (f + j) (get_or vs j 0) ∙ inv.long; same = rw (z, y) (rw e at inv.same) }
+
+    telling_done : n ≤ j → out ≡ sets l f (take n vs)
+    telling_done h = rw (drop_of_length-le (take n vs) {i = j} (omega (arith, length-take n vs))) at inv.same
+
+    pub told : (at : ℕ) → f ≡ min at (length l) → n ≡ min (length vs) (length l - f) → n ≤ j → out ≡ sets l at vs
+    told at hf hn h = telling_done h ∙ sets_cut vs l f n (omega (arith, hn)) ∙ go (ltb (length l) at) refl
+      where
+        go : (b : Bool) → ltb (length l) at ≡ b → sets l f vs ≡ sets l at vs
+        go true e = let h = ltb-true (length l) at e in sets_past vs l f (omega (arith, hf, h)) ∙ sym (sets_past vs l at (omega (arith, h)))
+        go false e = let h = ltb-false (length l) at e in let k : f ≡ at = omega (arith, hf, h) in ap (λ (i : ℕ). sets l i vs) k
 
 words_of : (x : Said) (xs : List Said) (k u v : ℕ) → k ≡ x.refusal → u ≡ x.first → v ≡ x.second → k ∷ u ∷ v ∷ answers_of xs ≡ answers_of (x ∷ xs)
 unfolding answers_of

@@ -15,13 +15,15 @@ use derive_state::{DerivedMut, Sizes, Special, StackRows, clear_maps};
 use session_operations::Session;
 use session_steps::{Step, perform};
 
-// An answer's words, as far as there is room for them.
+// An answer's words, as far as there is room for them. By a loop: `copy_from_slice` is a call of memmove here, which the archive would need from outside, beside memcpy and memset.
 fn tell(answers: &mut [u32], at: usize, said: &[u32])
     ensures { answers.new ≡ sets answers.old at said.now }
 {
     let from = at.min(answers.len());
     let n = said.len().min(answers.len() - from);
-    answers[from..from + n].copy_from_slice(&said[..n]);
+    for j in 0..n {
+        answers[from + j] = said[j];
+    }
 }
 
 // A step that was refused: why, and which one.
