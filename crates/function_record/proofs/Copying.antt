@@ -12,15 +12,6 @@ use Rattle.theory_image.specs.Betweens.{slice-none}
 use Rattle.model.specs.Table.{NAME, NAMED-EXPR}
 use Rattle.function_record.specs.Closed.{named_classes}
 
--- ---- what a part of a list holds after copy_from_slice
-pub copied : (from out ys : List ℕ) (n a p k : ℕ) → ys ≡ take (a + n - a) (drop a from) → n ≡ k → a + n ≤ length from → p + n ≤ length out → put_mid p k out ys ≡ sets out p (slice a (a + n) from)
-copied from out ys n a p k e q h room =
-    let b = length-slice a (a + n) from h in
-    let l : length (slice a (a + n) from) ≡ n = omega (arith, b) in
-    put_mid-paste p k out ys (slice a (a + n) from) n (e ∙ between_is from a (a + n)) q (sym l)
-    ∙ ap (λ v. take p out ++ v ++ drop (p + n) out) (take_all n (slice a (a + n) from) (omega (arith, l)))
-    ∙ sym (sets-eq (slice a (a + n) from) out p (omega (arith, l)) ∙ ap (λ m. take p out ++ slice a (a + n) from ++ drop (p + m) out) l)
-
 pub record Copying (from : List ℕ) (a n : ℕ) (out₀ : List ℕ) (p : ℕ) (out : List ℕ) (i : ℕ) : Type 0 where
   pub within : i ≤ n
   pub long : length out ≡ 16384

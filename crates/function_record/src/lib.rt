@@ -23,12 +23,15 @@ use base_words::Tags;
 use derive_state::{Full, Log, LogTags, Sizes, StackRows, Starts};
 use function_builder::{BODY, CLASSES, WORDS};
 
-// Copies `count` words of the row t of the stacks, from a on, to the log from p on.
+// Copies `count` words of the row t of the stacks, from a on, to the log from p on. By a loop, as all that follow: `copy_from_slice` is a call of memmove here, which the archive
+// would need from outside, beside memcpy and memset.
 fn copy_words(stacks: &StackRows, t: usize, a: usize, count: usize, log: &mut Log, p: usize)
     requires { (t < 4) × (a + count ≤ 16384) × (p + count ≤ 16384) × (length log.old ≡ 16384) × (length (row stacks.now t) ≡ 16384) }
     ensures { log.new ≡ sets log.old p (slice a (a + count) (row stacks.now t)) }
 {
-    log[p..p + count].copy_from_slice(&stacks[t][a..a + count]);
+    for j in 0..count {
+        log[p + j] = stacks[t][a + j];
+    }
 }
 
 // Copies the classes of the source's words from a on.
@@ -36,10 +39,12 @@ fn copy_tags(tags: &Tags, a: usize, count: usize, logtags: &mut LogTags, p: usiz
     requires { (a + count ≤ 16384) × (p + count ≤ 16384) × (length tags.now ≡ 16384) × (length logtags.old ≡ 16384) }
     ensures { logtags.new ≡ sets logtags.old p (slice a (a + count) tags.now) }
 {
-    logtags[p..p + count].copy_from_slice(&tags[a..a + count]);
+    for j in 0..count {
+        logtags[p + j] = tags[a + j];
+    }
 }
 
-// Copies the classes of expressions, from a on. By a loop, since each word becomes a byte and copy_from_slice copies what has one type.
+// Copies the classes of expressions, from a on: each is a word there.
 fn copy_classes(stacks: &StackRows, a: usize, count: usize, logtags: &mut LogTags, p: usize)
     requires count_bound { (a + count ≤ 16384) × (p + count ≤ 16384) × (length logtags.old ≡ 16384) × (length (row stacks.now 1) ≡ 16384) }
     requires by_index { (i : ℕ) → a ≤ i → i < a + count → get_or (row stacks.now 1) i 0 < 256 }
