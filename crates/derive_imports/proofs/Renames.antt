@@ -1,7 +1,7 @@
 -- A type imported under another name: the import from a view of the source in which the type has it. What the view holds is the module with that name in the type's
 -- record, so that it passes tests 3 and 4 as the source does.
 use mathlib.Core.Path.{◌≡◌, refl, sym, ap, ◌∙◌}
-use mathlib.Core.Bool.{Bool, true}
+use mathlib.Core.Bool.{Bool, true, false}
 use mathlib.Core.List.{List, [], ◌∷◌, ◌++◌, map}
 use Prim.Native.Nat.{ℕ, zero, suc, ◌+◌, ◌-◌, ◌*◌, ◌≤◌, ◌<◌}
 use native.Mathlib.Nat.{le_refl}
@@ -34,10 +34,11 @@ use Rattle.theory_image.specs.Betweens.{record_part}
 use Rattle.derive_state.specs.Refers.{tab_of}
 use Rattle.derive_state.specs.Flats.{special_of}
 use Rattle.derive_state.specs.Source.{mod_of, src_of, Source}
-use Rattle.derive_state.specs.Held.{recs_of, functions_of, maps_of, st_of, ImportOrUndoEnsures}
+use Rattle.derive_state.specs.Held.{cell, recs_of, functions_of, maps_of, st_of, ValidArrays, ImportEnsures}
 use Rattle.derive_state.specs.Sizes.{Sizes}
 use Rattle.derive_state.proofs.State.{code_low, six_ext}
 use Rattle.derive_imports.proofs.Sources.{mod_is, source_of, count_is}
+use Rattle.derive_imports.proofs.Turns.{turn-known}
 
 -- ---- the first cell of a record replaced
 -- a record follows the header
@@ -262,16 +263,28 @@ module _ (words tags : List ℕ) (n : ℕ) (src : Source words tags n) (k : ℕ)
   view_count t h = header_count words begin (name + 1) t (omega (arith, at_place (mod_of words n) k name src.taped.well type_in src.taped begin hb hk)) h
 
   -- the import from the view is that of the source in which the type has the name
-  pub undoes_view : (o : ℕ) (log₀ logtags₀ : List ℕ) (starts₀ maps₀ : List (List ℕ)) (e r : Sizes) (log logtags : List ℕ) (starts maps : List (List ℕ)) (buckets : List ℕ)
-      → ImportOrUndoEnsures (set words begin (name + 1)) (import_t o (src_of (set words begin (name + 1)) n) (tab_of 1) k) log₀ logtags₀ starts₀ maps₀ e r log logtags starts maps buckets
-      → ImportOrUndoEnsures words (import_t o (renamed (src_of words n) k name) types k) log₀ logtags₀ starts₀ maps₀ e r log logtags starts maps buckets
+  pub lands_view : (o : ℕ) (log₀ logtags₀ : List ℕ) (starts₀ maps₀ : List (List ℕ)) (buckets₀ : List ℕ) (e r : Sizes) (log logtags : List ℕ) (starts maps : List (List ℕ)) (buckets : List ℕ)
+      → ImportEnsures (set words begin (name + 1)) (import_t o (src_of (set words begin (name + 1)) n) (tab_of 1) k) log₀ logtags₀ starts₀ maps₀ buckets₀ e r log logtags starts maps buckets
+      → ImportEnsures words (import_t o (renamed (src_of words n) k name) types k) log₀ logtags₀ starts₀ maps₀ buckets₀ e r log logtags starts maps buckets
   unfolding tab_of
-  undoes_view o log₀ logtags₀ starts₀ maps₀ e r log logtags starts maps buckets L₀ =
+  lands_view o log₀ logtags₀ starts₀ maps₀ buckets₀ e r log logtags starts maps buckets L₀ =
       let L = rw src_renamed at L₀ in
       let was : (special : List ℕ) → st_of (set words begin (name + 1)) log₀ logtags₀ starts₀ maps₀ special e ≡ st_of words log₀ logtags₀ starts₀ maps₀ special e = λ special. st_view words _ log₀ logtags₀ starts₀ maps₀ special e view_count in
       record {
         over = λ q special. rw (← was special) (L.over q special);
-        stays = λ q. (λ special. rw (← was special, ← st_view words (set words begin (name + 1)) log logtags starts maps special e view_count) ((L.stays q).0 special), (L.stays q).1);
-        is = λ q. (λ special. rw (← was special, ← st_view words (set words begin (name + 1)) log logtags starts maps special r view_count) ((L.is q).0 special), (L.is q).1);
+        is = λ q special. rw (← was special, ← st_view words (set words begin (name + 1)) log logtags starts maps special r view_count) (L.is q special);
+        kept = L.kept;
         beside = L.beside;
+        more = L.more;
+        below = L.below;
+        log_long = L.log_long;
+        tags_long = L.tags_long;
+        marks_stay = L.marks_stay;
       }
+
+  -- a type that is mapped already stays
+  pub rename-known : (o : ℕ) (log₀ logtags₀ : List ℕ) (starts₀ maps₀ : List (List ℕ)) (buckets₀ : List ℕ) (e : Sizes) → e.full ≡ false → ValidArrays log₀ logtags₀ starts₀ maps₀ buckets₀ e
+      → (cell maps₀ 1 k ≡ 0 → ⊥) → ImportEnsures words (import_t o (renamed (src_of words n) k name) types k) log₀ logtags₀ starts₀ maps₀ buckets₀ e e log₀ logtags₀ starts₀ maps₀ buckets₀
+  rename-known o log₀ logtags₀ starts₀ maps₀ buckets₀ e nf K ne =
+      lands_view o log₀ logtags₀ starts₀ maps₀ buckets₀ e e log₀ logtags₀ starts₀ maps₀ buckets₀
+      (turn-known (set words begin (name + 1)) tags n view_source o 1 k (omega arith) (rw (view_count 1 (omega arith)) hk) log₀ logtags₀ starts₀ maps₀ buckets₀ e nf K ne)

@@ -1,17 +1,19 @@
 // The import of a record of a table, as naga_oil's derive.rs has it for names, types, constants, overrides, globals and global expressions: what a word refers to, a record by its
-// table and its number there; and the import, which calls itself on what a record refers to.
+// table and its number there; the import, which calls itself on what a record refers to; and that of a type under another name.
 #![tactic(auto)]
 
 ghost use Rattle.std.specs.Prelude.{MatchOption, ◌≡◌, ◌<◌, ◌≤◌};
 ghost use Rattle.model.specs.Module.{count_at};
+ghost use Rattle.model.specs.Tables.{types};
 ghost use Rattle.model.specs.References.{target};
-ghost use Rattle.model.specs.Imports.{import_t};
+ghost use Rattle.model.specs.Imports.{import_t, renamed};
 ghost use Rattle.derive_state.specs.Refers.{tab_of};
 ghost use Rattle.derive_state.specs.Source.{src_of, refers_to, number_of};
 ghost use Rattle.derive_state.specs.Held.{Valid, Imports};
 ghost use Rattle.derive_imports.specs.Referents.{referent_of};
 
-use base_views::EXPRESSIONS;
+use base_handles::TypeHandle;
+use base_views::{EXPRESSIONS, Image, TYPES};
 use derive_intern::intern;
 use derive_state::{
     DerivedMut, Full, Reference, ShaderRecord, ShaderSource, Sizes, Target, target_of,
@@ -86,4 +88,36 @@ pub fn import(
         end,
     };
     intern(record, source.offset, derived, e, r)
+}
+
+// Imports type h under the name with the given number: as `import` from a view of the source in which it has that name. A type that is mapped already keeps the name that it has, and no
+// view is made for it.
+pub fn rename_type(
+    source: ShaderSource,
+    derived: &mut DerivedMut,
+    ends: Sizes,
+    h: TypeHandle,
+    name: u32,
+) -> Result<Sizes, Full>
+    requires h_bound { (h.0 < count_at 1 source.image.words.now) × (name < count_at 0 source.image.words.now) }
+    requires valid_arrays { Valid derived.old ends }
+    ensures { Imports source.entry.image.words.now (import_t source.entry.offset (renamed (src_of source.entry.image.words.now source.entry.image.n) h.0 name) types h.0) derived.old ends result derived.new }
+{
+    let k = h.0 as usize;
+    if derived.maps[TYPES][k] != 0 {
+        return Ok(ends);
+    }
+    let at = source.image.record_at(TYPES, k);
+    let mut view = *source.image.words;
+    view[at] = name + 1;
+    let image = Image {
+        words: &view,
+        tags: source.image.tags,
+        n: source.image.n,
+    };
+    let renamed = ShaderSource {
+        image,
+        offset: source.offset,
+    };
+    import(renamed, derived, ends, Reference::from(h))
 }

@@ -13,7 +13,6 @@ ghost use Rattle.derive_state.specs.Held.{ImportsOrUndoes, Valid};
 ghost use Rattle.derive_rollback.specs.Answered.{MappedToEnsures};
 
 use base_handles::TypeHandle;
-use base_views::{Image, TYPES};
 use derive_snapshot::{Snapshot, restore};
 use derive_state::{DerivedMut, Full, Maps, Reference, ShaderSource, Sizes, number_of};
 
@@ -45,7 +44,7 @@ pub fn import(
     got
 }
 
-// Imports type h under the name with the given number: as `import` from a view of the source in which it has that name.
+// Imports type h under the name with the given number.
 pub fn rename_type(
     source: ShaderSource,
     derived: &mut DerivedMut,
@@ -57,17 +56,10 @@ pub fn rename_type(
     requires valid_arrays { Valid derived.old ends }
     ensures { ImportsOrUndoes source.entry.image.words.now (import_t source.entry.offset (renamed (src_of source.entry.image.words.now source.entry.image.n) h.0 name) types h.0) derived.old ends result derived.new }
 {
-    let at = source.image.record_at(TYPES, h.0 as usize);
-    let mut view = *source.image.words;
-    view[at] = name + 1;
-    let image = Image {
-        words: &view,
-        tags: source.image.tags,
-        n: source.image.n,
-    };
-    let renamed = ShaderSource {
-        image,
-        offset: source.offset,
-    };
-    import(renamed, derived, ends, Reference::from(h))
+    let saved = Snapshot::of(source.image.words, &derived.view(ends));
+    let got = derive_imports::rename_type(source, derived, ends, h, name);
+    if got.is_err() {
+        restore(derived.starts, derived.maps, &saved);
+    }
+    got
 }

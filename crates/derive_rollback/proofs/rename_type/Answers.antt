@@ -1,39 +1,18 @@
--- `derive_rollback::rename_type` meets its contract: the view is a source, and what is imported from it is what the source's import under the new name is.
-use Rattle.std.proofs.Common.{arith}
-use Rattle.derive_imports.proofs.Sources.{count_few}
-use Rattle.derive_imports.proofs.Renames.{view_in, view_source, view_count, undoes_view}
-use Rattle.base_views.proofs.LaidOut.{laid_out}
+use mathlib.Core.Path.{sym, ◌∙◌}
+use Rattle.derive_snapshot.proofs.Over.{whole_of, undone}
+use Rattle.derive_snapshot.proofs.Saving.{in_use}
+use Rattle.derive_state.specs.Sizes.{going}
 use Rattle.derive_state.proofs.Sources.{source_of}
 use Rattle.derive_rollback.proofs.rename_type.Goals as goal
 
-pub overflow_add-view : goal.overflow_add-view
-overflow_add-view c = let z = count_few _ _ _ (source_of c.args.source) 0 (omega arith) in let y = c.requires.h_bound.1 in omega arith
+pub of-saved-requires : goal.of-saved-requires
+of-saved-requires c = let a = c.args in let zz = in_use a.source.image.words.now a.source.image.tags.now a.source.image.n (source_of c.args.source) a.derived.now.log.now a.derived.now.logtags.now a.derived.now.starts.now a.derived.now.maps.now a.derived.now.buckets.now (going a.ends) c.requires.valid_arrays in let v = c.view.ensures in record { starts_in_use = rw (v.2, v.5) zz.0; maps_in_use = rw v.3 zz.1 }
 
-pub offset_bounds-view-at : goal.offset_bounds-view-at
-offset_bounds-view-at c = let q = c.requires.h_bound in let z = view_in _ _ _ (source_of c.args.source) c.args.h.0 q.0 c.args.name q.1 _ c.record_at-at.ensures in let y = (source_of c.args.source).taped.small in omega arith
-
-pub bounds-view-at : goal.bounds-view-at
-bounds-view-at c = let q = c.requires.h_bound in let z = view_in _ _ _ (source_of c.args.source) c.args.h.0 q.0 c.args.name q.1 _ c.record_at-at.ensures in let y = (source_of c.args.source).taped.small in omega arith
-
-pub invariant_of-image-clause-laid_out : goal.invariant_of-image-clause-laid_out
-invariant_of-image-clause-laid_out c = let q = c.requires.h_bound in laid_out (record { holds = _; taped = (view_source _ _ _ (source_of c.args.source) c.args.h.0 q.0 c.args.name q.1 _ c.record_at-at.ensures).taped })
-
-pub invariant_of-renamed-clause-test_3 : goal.invariant_of-renamed-clause-test_3
-invariant_of-renamed-clause-test_3 c = let q = c.requires.h_bound in (view_source _ _ _ (source_of c.args.source) c.args.h.0 q.0 c.args.name q.1 _ c.record_at-at.ensures).three
-
-pub invariant_of-renamed-clause-test_4 : goal.invariant_of-renamed-clause-test_4
-invariant_of-renamed-clause-test_4 c = let q = c.requires.h_bound in (view_source _ _ _ (source_of c.args.source) c.args.h.0 q.0 c.args.name q.1 _ c.record_at-at.ensures).four
-
-pub import-requires : goal.import-requires
-import-requires c =
-    let q = c.requires.h_bound in
-    rw c.from.ensures (record {
-      number_bound = (omega arith, rw (view_count _ _ _ (source_of c.args.source) c.args.h.0 q.0 c.args.name q.1 _ c.record_at-at.ensures 1 (omega arith)) q.0);
-      valid_arrays = c.requires.valid_arrays;
-    })
-
-pub returns : goal.returns
-returns c =
-    let q = c.requires.h_bound in
-    let L = rw c.from.ensures at c.import.ensures in
-    record { does = undoes_view _ _ _ (source_of c.args.source) c.args.h.0 q.0 c.args.name q.1 _ c.record_at-at.ensures c.args.source.offset _ _ _ _ _ _ _ _ _ _ _ L.does; same = L.same }
+pub returns-then-is_err : goal.returns-then-is_err
+returns-then-is_err c =
+    let a = c.args in
+    let K = c.requires.valid_arrays in
+    let v = c.view.ensures in
+    let same = c.rename_type-got.ensures.same in
+    let S = rw (v.2, v.3, v.5) at c.of-saved.ensures in
+    record { does = whole_of a.source.image.words.now a.derived.now.log.now a.derived.now.logtags.now a.derived.now.starts.now a.derived.now.maps.now a.derived.now.buckets.now (going a.ends) K _ _ S _ _ _ _ _ _ _ c.rename_type-got.ensures.does _ _ (undone _ (sym c.is_err.ensures.value ∙ c.if-is_err.true) c.restore.ensures); same = record { log_same = same.log_same; logtags_same = same.logtags_same; starts_same = same.starts_same; maps_same = same.maps_same; buckets_same = same.buckets_same } }
