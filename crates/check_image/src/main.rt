@@ -5,11 +5,13 @@
 // The answer for an image.
 fn answer(rt: &(impl Print + Eprint), image: &[u8]) {
     match intake::intake(image) {
-        Ok(_) => program_streams::write(rt, "check_image", b"accepted\n"),
+        Ok(_) => {
+            program_streams::write(rt, "check_image", b"accepted\n");
+        }
         Err(refusal) => {
             let number = refusal.number();
             program_streams::unwritten(rt, "check_image", println!(rt; "refused {number}"));
-            program_streams::refused(rt, "check_image", refusal);
+            program_streams::refusal(rt, "check_image", refusal);
         }
     }
 }

@@ -6,8 +6,10 @@
 fn answer(rt: &(impl Print + Eprint), image: &[u8]) {
     let mut output = [0; 65537];
     match link::link(image, &mut output) {
-        Ok(count) => program_streams::write(rt, "link_image", &output[..count as usize]),
-        Err(refusal) => program_streams::refused(rt, "link_image", refusal),
+        Ok(count) => {
+            program_streams::write(rt, "link_image", &output[..count as usize]);
+        }
+        Err(refusal) => program_streams::refusal(rt, "link_image", refusal),
     }
 }
 

@@ -8,7 +8,7 @@ fn answer(rt: &(impl Print + Eprint), image: &[u8]) {
     let said = order_text::tell_of(image, &mut out);
     program_streams::write(rt, "order", &out[..said.count]);
     if let Err(refusal) = said.ended {
-        program_streams::refused(rt, "order", refusal);
+        program_streams::refusal(rt, "order", refusal);
     }
 }
 

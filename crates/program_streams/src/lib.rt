@@ -4,19 +4,29 @@
 // `println!(program.rt; ..)`, and what reads takes the whole of `HostRuntime`, so that the struct would have a type parameter with another bound in each method.
 #![tactic(auto)]
 
-ghost use Rattle.std.specs.Prelude.{◌≤◌, length, IfOk};
+ghost use Rattle.std.specs.Prelude.{◌≡◌, ◌≤◌, ◌<◌, length, MatchOption, MatchResult};
+ghost use Rattle.base_refusals.specs.Numbers.{number_of};
 
 use base_refusals::Refusal;
 use std::io::{self, Read};
 
-// Reads until buf is full, the input ends or a read fails: how many bytes are at the start of buf.
-pub fn read<R: Read>(from: &mut R, buf: &mut [u8]) -> io::Result<usize>
-    ensures { IfOk result (λ n. n ≤ length buf.new) }
+// A read that failed: how many bytes are at the start of the buffer from those before it, and the error.
+#[derive(Clone, Copy)]
+pub struct ReadError {
+    pub count: usize,
+    pub error: io::Error,
+}
+
+// Reads until buf is full, the input ends or a read fails: how many bytes are at the start of buf. Where a read failed, buf is not full.
+pub fn read<R: Read>(from: &mut R, buf: &mut [u8]) -> Result<usize, ReadError>
+    ensures { MatchResult result (λ n. n ≤ length buf.new) (λ e. e.count < length buf.new) }
 {
     let mut done = 0;
     // how many bytes a read gives is not known before it
     while done < buf.len() {
-        let n = from.read(&mut buf[done..])?;
+        let n = from
+            .read(&mut buf[done..])
+            .map_err(|error| ReadError { count: done, error })?;
         if n == 0 {
             break;
         }
@@ -30,10 +40,21 @@ pub fn read<R: Read>(from: &mut R, buf: &mut [u8]) -> io::Result<usize>
 pub fn with_image<F: FnOnce(&mut [u8])>(rt: &HostRuntime, program: &str, answer: F)
     requires { F.IsAlwaysCallable answer }
 {
-    let mut bytes = [0; 65537];
-    match read(&mut rt.stdin(), &mut bytes) {
+    with_input(rt, program, &mut [0; 65537], answer);
+}
+
+// The same with a buffer of the caller's: input that is longer is read as far as there is room.
+pub fn with_input<F: FnOnce(&mut [u8])>(
+    rt: &HostRuntime,
+    program: &str,
+    bytes: &mut [u8],
+    answer: F,
+)
+    requires { F.IsAlwaysCallable answer }
+{
+    match read(&mut rt.stdin(), bytes) {
         Ok(n) => answer(&mut bytes[..n]),
-        Err(error) => unread(rt, program, error),
+        Err(failed) => unread(rt, program, failed.error),
     }
 }
 
@@ -42,9 +63,11 @@ pub fn unread(rt: &impl Eprint, program: &str, error: io::Error) {
     let _ = eprintln!(rt; "{program}: standard input: {error}");
 }
 
-// Writes to standard output; a write that fails is reported.
-pub fn write(rt: &(impl Print + Eprint), program: &str, bytes: &[u8]) {
-    unwritten(rt, program, rt.write_all(bytes));
+// Writes to standard output; a write that fails is reported. Whether all was written.
+pub fn write(rt: &(impl Print + Eprint), program: &str, bytes: &[u8]) -> bool {
+    let written = rt.write_all(bytes);
+    unwritten(rt, program, written);
+    written.is_ok()
 }
 
 // Reports that standard output could not be written, if `written` says so.
@@ -54,12 +77,52 @@ pub fn unwritten(rt: &impl Eprint, program: &str, written: io::Result<()>) {
     }
 }
 
-// Says a refusal on standard error: `PROGRAM: refused 5: ..`; of a ring also the count of functions from which a chain of calls reaches it:
-// `PROGRAM: refused 12 left 2: ..`.
-pub fn refused(rt: &impl Eprint, program: &str, refusal: Refusal) {
-    let k = refusal.number();
-    let _ = match refusal {
-        Refusal::Ring(left) => eprintln!(rt; "{program}: refused {k} left {left}: {refusal}"),
-        _ => eprintln!(rt; "{program}: refused {k}: {refusal}"),
+// The refusal that has this number, if one does; a ring without its count.
+fn refusal_of_number(k: u32) -> Option<Refusal>
+    ensures { MatchOption result ((r : Refusal) → number_of r ≡ k → ⊥) (λ r. number_of r ≡ k) }
+{
+    [
+        Refusal::BadSize,
+        Refusal::BadLayout,
+        Refusal::BadRange,
+        Refusal::BadReference,
+        Refusal::BadNames,
+        Refusal::BadScope,
+        Refusal::ShortOutput,
+        Refusal::OriginalNotFound,
+        Refusal::ReplacementNotFound,
+        Refusal::ArgumentTypes,
+        Refusal::ResultTypes,
+        Refusal::Ring(0),
+        Refusal::NumberGiven,
+        Refusal::NoSource,
+        Refusal::Full,
+        Refusal::UnknownRing,
+    ]
+    .iter()
+    .find(|refusal| refusal.number() == k)
+    .copied()
+}
+
+// Says the number of a refusal on standard error, with its sentence: `PROGRAM: refused 5: ..`.
+pub fn refused(rt: &impl Eprint, program: &str, k: u32) {
+    let _ = match refusal_of_number(k) {
+        Some(refusal) => eprintln!(rt; "{program}: refused {k}: {refusal}"),
+        None => eprintln!(rt; "{program}: refused {k}: this is no refusal"),
     };
+}
+
+// The same of a ring, with the count of functions from which a chain of calls reaches it: `PROGRAM: refused 12 left 2: ..`.
+pub fn ring(rt: &impl Eprint, program: &str, left: u32) {
+    let refusal = Refusal::Ring(left);
+    let k = refusal.number();
+    let _ = eprintln!(rt; "{program}: refused {k} left {left}: {refusal}");
+}
+
+// Says a refusal so: a ring with its count, any other by its number.
+pub fn refusal(rt: &impl Eprint, program: &str, refusal: Refusal) {
+    match refusal {
+        Refusal::Ring(left) => ring(rt, program, left),
+        _ => refused(rt, program, refusal.number()),
+    }
 }

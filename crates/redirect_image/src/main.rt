@@ -72,12 +72,14 @@ impl fmt::Display for BadArguments {
 // Writes the image, redirected; or its refusal.
 fn redirect(rt: &(impl Print + Eprint), image: &mut [u8], request: Request) {
     match redirect_bytes::redirect_function(image, request) {
-        Ok(_) => program_streams::write(rt, "redirect_image", image),
-        Err(refusal) => program_streams::refused(rt, "redirect_image", refusal),
+        Ok(_) => {
+            program_streams::write(rt, "redirect_image", image);
+        }
+        Err(refusal) => program_streams::refusal(rt, "redirect_image", refusal),
     }
 }
 
-// Reads the arguments and then the image, which is redirected.
+// Reads the arguments and then the image, which is redirected. The buffer is longer than an image may be, so that one that is too long is seen to be.
 fn run(rt: &HostRuntime) -> Result<(), BadArguments> {
     let count = argument_count(rt);
     if count < HEAD {
@@ -99,7 +101,9 @@ fn run(rt: &HostRuntime) -> Result<(), BadArguments> {
         replacement,
         omit,
     };
-    program_streams::with_image(rt, "redirect_image", |image| redirect(rt, image, request));
+    program_streams::with_input(rt, "redirect_image", &mut [0; 65540], |image| {
+        redirect(rt, image, request)
+    });
     Ok(())
 }
 

@@ -8,7 +8,7 @@ use wuldgisp::wuldgisp_intake;
 // What precedes an image: the expected answer, and the image's length; or none at the end of the input.
 fn head<R: Read>(from: &mut R) -> io::Result<Option<(u32, usize)>> {
     let mut bytes = [0u8; 8];
-    if program_streams::read(from, &mut bytes)? < 8 {
+    if program_streams::read(from, &mut bytes).map_err(|failed| failed.error)? < 8 {
         return Ok(None);
     }
     let want = base_words::word_at(&bytes, 0);
