@@ -13,11 +13,11 @@ ghost use Rattle.derive_state.specs.Sizes.{going};
 
 use base_kinds::stands;
 use base_words::Words;
-use derive_imports::{Referent, referent_of};
+use derive_imports::{Referent, import, referent_of};
 use derive_lookup::NamedDerived;
 use derive_state::{DerivedMut, ExprMap, Full, NamedSource, Places, Sizes, StackRows};
 use function_builder::{ShaderFunction, append};
-use function_outside::{import_outside, import_record};
+use function_outside::{import_outside, missing};
 
 // Imports expression e, unless it is mapped, with what it refers to outside the function.
 pub fn import_operand(
@@ -80,7 +80,11 @@ pub fn import_standing(
     for j in piece.at..piece.end {
         match referent_of(image.tags[j], image.words[j]) {
             None => {}
-            Some(Referent::Record(r)) => got = import_record(function.source, derived, got, r)?,
+            Some(Referent::Record(r)) => {
+                if missing(derived.maps, r) {
+                    got = import(function.source.source(), derived, got, r)?;
+                }
+            }
             Some(Referent::Own(n)) => {
                 let x = n as usize;
                 if is_unmapped_standing(image.words, function.places, exprmap, x) {
