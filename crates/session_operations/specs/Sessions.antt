@@ -36,9 +36,14 @@ Absent source c h e = ((source ≡ None) × (e ≡ NoSource)) ⊎ ((is_set sourc
 abbrev pub meant : Session → Session'
 meant s = session_of (is_set s.source) (n_in s.source) (offset_in s.source) s.words.now s.derived.log.now s.derived.logtags.now s.derived.starts.now s.derived.maps.now s.special.now (going s.sizes)
 
--- a clause and no ghost field: an operation writes the arrays, then the sizes and the source that is set, and between these writes it does not hold
+-- what an operation on records asks and leaves: the source, the derived module and the sizes are a session between two operations; nothing is said of the stacks. A clause and no ghost
+-- field: an operation writes the arrays, then the sizes and the source that is set, and between these writes it does not hold
+abbrev pub ValidRecords : Session → Type 0
+ValidRecords s = ValidSession (is_set s.source) (n_in s.source) (offset_in s.source) s.words.now s.tags.now s.derived.log.now s.derived.logtags.now s.derived.starts.now s.derived.maps.now s.derived.buckets.now s.special.now (going s.sizes)
+
+-- what an operation on functions asks and leaves: the stacks have their lengths besides; a clause for the same reason
 pub record Valid (s : Session) : Type 0 where
-  pub session : ValidSession (is_set s.source) (n_in s.source) (offset_in s.source) s.words.now s.tags.now s.derived.log.now s.derived.logtags.now s.derived.starts.now s.derived.maps.now s.derived.buckets.now s.special.now (going s.sizes)
+  pub session : ValidRecords s
   pub stacks : Stacks s.stacks.now (going s.sizes)
 
 -- the arrays are the caller's, as they were
@@ -50,13 +55,25 @@ pub record SameMemory (s s' : Session) : Type 0 where
   pub stacks_same : s'.stacks.ghost_name ≡ s.stacks.ghost_name
 
 -- ---- what an operation does
--- the session after it means what the model's operation leaves, with its refusal and its value; it is valid, in the same arrays
+-- on records: the session after it means what the model's operation leaves, with its refusal and its value; it is valid but for its stacks, in the same arrays
+pub record OperatesOnRecords {A : Type 0} (op : Session' → Answer A) (s : Session) (refusal : ℕ) (value : A) (s' : Session) : Type 0 where
+  pub does : OperationEnsures op (meant s) refusal value (meant s')
+  pub valid : ValidRecords s'
+  pub same : SameMemory s s'
+
+-- the same of a finish without entry points, whose value is the image: its bytes go to the start of the output
+pub record FinishesRecords (op : Session' → Answer (List ℕ)) (s : Session) (refusal bytes : ℕ) (output₀ output : List ℕ) (s' : Session) : Type 0 where
+  pub does : FinishEnsures (op (meant s)) (meant s) refusal bytes output₀ output (meant s')
+  pub valid : ValidRecords s'
+  pub same : SameMemory s s'
+
+-- on functions, and on records of a session whose stacks are valid (`operates_valid`, `finishes_valid` of Theorems): it is valid, stacks too
 pub record Operates {A : Type 0} (op : Session' → Answer A) (s : Session) (refusal : ℕ) (value : A) (s' : Session) : Type 0 where
   pub does : OperationEnsures op (meant s) refusal value (meant s')
   pub valid : Valid s'
   pub same : SameMemory s s'
 
--- the same of a finish, whose value is the image: its bytes go to the start of the output
+-- the same of a finish
 pub record Finishes (op : Session' → Answer (List ℕ)) (s : Session) (refusal bytes : ℕ) (output₀ output : List ℕ) (s' : Session) : Type 0 where
   pub does : FinishEnsures (op (meant s)) (meant s) refusal bytes output₀ output (meant s')
   pub valid : Valid s'

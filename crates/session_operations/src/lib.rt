@@ -14,7 +14,7 @@ ghost use Rattle.function_references.specs.Fits.{Ground};
 ghost use Rattle.derive_finish.specs.Told.{refusal_of, bytes_in};
 ghost use Rattle.session_operations.specs.Operations.{MapSpanEnsures, RequiredEnsures};
 ghost use Rattle.session_operations.specs.Answers.{value_in, start_of, end_of};
-ghost use Rattle.session_operations.specs.Sessions.{is_set, offset_in, Absent, Valid, Operates, Finishes, ImportStays, FinishStays, renewed};
+ghost use Rattle.session_operations.specs.Sessions.{is_set, offset_in, Absent, ValidRecords, OperatesOnRecords, FinishesRecords, ImportStays, FinishStays, renewed};
 
 use base_handles::{RecordHandle, TypeHandle};
 use base_refusals::Refusal;
@@ -83,8 +83,8 @@ pub struct Session<'a, 'd> {
 
 // import_type, import_const, import_pipeline_override, import_global, import_global_expression: a record of the source. Its number in the derived module.
 pub fn import(session: &mut Session, handle: RecordHandle) -> Result<u32, Refusal>
-    requires { Valid session.old }
-    ensures operates { Operates {A = ℕ} (importing (table_of handle) (number_in handle)) session.old (refusal_of result) (value_in result) session.new }
+    requires { ValidRecords session.old }
+    ensures operates { OperatesOnRecords {A = ℕ} (importing (table_of handle) (number_in handle)) session.old (refusal_of result) (value_in result) session.new }
     ensures stays { ImportStays session.old session.new }
     ensures stacks { session.new.stacks.now ≡ session.old.stacks.now }
 {
@@ -97,8 +97,8 @@ pub fn import(session: &mut Session, handle: RecordHandle) -> Result<u32, Refusa
 
 // rename_type: imports type h under the name with the given number.
 pub fn rename_type(session: &mut Session, h: TypeHandle, name: u32) -> Result<u32, Refusal>
-    requires { Valid session.old }
-    ensures operates { Operates {A = ℕ} (rename_type h.0 name) session.old (refusal_of result) (value_in result) session.new }
+    requires { ValidRecords session.old }
+    ensures operates { OperatesOnRecords {A = ℕ} (rename_type h.0 name) session.old (refusal_of result) (value_in result) session.new }
     ensures stays { ImportStays session.old session.new }
     ensures stacks { session.new.stacks.now ≡ session.old.stacks.now }
 {
@@ -151,8 +151,8 @@ pub fn has_required_special_types(special: &Special, ends: Sizes) -> bool
 // image left there that intake refuses is cleared, since intake promises nothing of it; one that is accepted and does not fit stays there, where no source is set.
 fn set_first_source(session: &mut Session, image: &[u8], offset: u32) -> Result<(), Refusal>
     requires unset { is_set session.old.source ≡ false }
-    requires valid { Valid session.old }
-    ensures operates { Operates {A = Unit {0}} (setOf (length image.now) (words_of image.now) offset) session.old (refusal_of result) tt session.new }
+    requires valid { ValidRecords session.old }
+    ensures operates { OperatesOnRecords {A = Unit {0}} (setOf (length image.now) (words_of image.now) offset) session.old (refusal_of result) tt session.new }
     ensures stacks { session.new.stacks.now ≡ session.old.stacks.now }
 {
     let n = match intake::take_in(image, session.words, session.tags) {
@@ -178,8 +178,8 @@ fn set_first_source(session: &mut Session, image: &[u8], offset: u32) -> Result<
 
 // set_shader_source: the image with the offset. A source that is set stays until the image is accepted and fits.
 pub fn set_shader_source(session: &mut Session, image: &[u8], offset: u32) -> Result<(), Refusal>
-    requires { Valid session.old }
-    ensures operates { Operates {A = Unit {0}} (setOf (length image.now) (words_of image.now) offset) session.old (refusal_of result) tt session.new }
+    requires { ValidRecords session.old }
+    ensures operates { OperatesOnRecords {A = Unit {0}} (setOf (length image.now) (words_of image.now) offset) session.old (refusal_of result) tt session.new }
     ensures stacks { session.new.stacks.now ≡ session.old.stacks.now }
 {
     if session.source.is_none() {
@@ -215,8 +215,8 @@ pub fn renew(session: &mut Session)
 
 // finish, without entry points: how many bytes were written. The session is then a new one; refused, it is as it was.
 pub fn finish_plain(session: &mut Session, output: &mut [u8]) -> Result<usize, Refusal>
-    requires { Valid session.old }
-    ensures finishes { Finishes (finishOf (length output.old)) session.old (refusal_of result) (bytes_in result) output.old output.new session.new }
+    requires { ValidRecords session.old }
+    ensures finishes { FinishesRecords (finishOf (length output.old)) session.old (refusal_of result) (bytes_in result) output.old output.new session.new }
     ensures stays { FinishStays session.old (refusal_of result) session.new }
     ensures log { (session.new.derived.log.now ≡ session.old.derived.log.now) × (session.new.derived.logtags.now ≡ session.old.derived.logtags.now) × (session.new.derived.buckets.now ≡ session.old.derived.buckets.now) }
     ensures stacks { session.new.stacks.now ≡ session.old.stacks.now }

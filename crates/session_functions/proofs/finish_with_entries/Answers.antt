@@ -17,7 +17,7 @@ pub returns-in_err-set-clause-finishes : goal.returns-in_err-set-clause-finishes
 returns-in_err-set-clause-finishes c = let p = err_from_is_err_and c.from_residual.result c.from_residual.ensures.1 in let q = no_source _ NoSource _ _ c.ok_or.ensures.value c.in_err-set.was in let a = c.args in let L = rw q.0 at c.requires.session in let S = c.requires.stacks in let zz = Ending.end_none _ _ _ _ _ _ _ _ _ _ _ _ L _ S a.output.now refl in rw (p.1, p.2, q.1) (record { does = rw q.0 zz.0; valid = c.requires; same = memory_same _ })
 
 pub over-source-requires : goal.over-source-requires
-over-source-requires c = set_ground c.requires _ c.in_ok-set.ensures.ok_part
+over-source-requires c = set_ground c.args.session.now c.requires.session _ c.in_ok-set.ensures.ok_part
 
 pub invariant_of-entries_ring : goal.invariant_of-entries_ring
 invariant_of-entries_ring c = let L = rw c.in_ok-set.ensures.ok_part at c.requires.session in let v = c.view-view.ensures in record { bearing = rw (v.0, v.1, v.2, v.5) (bearing L.kept) }

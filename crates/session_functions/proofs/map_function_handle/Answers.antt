@@ -22,7 +22,7 @@ returns-in_err-source-clause-operates c =
     ]
 
 pub source_with-requires : goal.source_with-requires
-source_with-requires c = rw c.from.ensures (record { table_bound = omega arith; passed = set_ground c.requires })
+source_with-requires c = rw c.from.ensures (record { table_bound = omega arith; passed = set_ground c.args.session.now c.requires.session })
 
 pub invariant_of-derived : goal.invariant_of-derived
 invariant_of-derived c = let L = rw c.in_ok-source.ensures.0 at c.requires.session in let v = c.view-view.ensures in record { bearing = rw (v.0, v.1, v.2, v.5) (bearing L.kept) }
