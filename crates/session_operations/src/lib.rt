@@ -176,6 +176,16 @@ fn set_first_source(session: &mut Session, image: &[u8], offset: u32) -> Result<
     Ok(())
 }
 
+// Puts the words of a source and their classes in place of others. A function of its own, with the arrays as parameters: those behind the fields of a session the compiler does not
+// tell apart, and copies them by memmove, which the archive would need from outside, beside memcpy and memset.
+#[inline(never)]
+fn replace(words: &mut Words, tags: &mut Tags, by: &Words, classes: &Tags)
+    ensures { (words.new ≡ by.now) × (tags.new ≡ classes.now) }
+{
+    *words = *by;
+    *tags = *classes;
+}
+
 // set_shader_source: the image with the offset. A source that is set stays until the image is accepted and fits.
 pub fn set_shader_source(session: &mut Session, image: &[u8], offset: u32) -> Result<(), Refusal>
     requires { ValidRecords session.old }
@@ -196,8 +206,7 @@ pub fn set_shader_source(session: &mut Session, image: &[u8], offset: u32) -> Re
         session.special,
         session.sizes,
     )?;
-    *session.words = words;
-    *session.tags = tags;
+    replace(session.words, session.tags, &words, &tags);
     session.source = Some(set);
     session.sizes = sizes;
     Ok(())

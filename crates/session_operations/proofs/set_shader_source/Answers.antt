@@ -15,4 +15,4 @@ pub returns-in_err-sizes-clause-operates : goal.returns-in_err-sizes-clause-oper
 returns-in_err-sizes-clause-operates c = let p = err_from_is_err_and c.from_residual-in_err-sizes.result c.from_residual-in_err-sizes.ensures.1 in let o = c.over-source.ensures in let a = c.args in let zz = set_not a.image.now c.take_in.new.words c.take_in.new.tags c.take_in.result c.take_in.ensures _ _ _ _ _ _ _ _ _ _ _ _ c.requires a.offset c.in_ok-n.n c.in_ok-n.was _ _ _ _ _ _ _ (rw (c.source.ensures.0, c.source.ensures.1, o.0, o.2, o.3) at c.in_err-sizes.ensures.does) refl in rw (p.1, p.2) (record { does = zz.0; valid = zz.1; same = record { words_same = refl; tags_same = refl; derived_same = c.set_source.ensures.same; special_same = refl; stacks_same = refl } })
 
 pub returns-clause-operates : goal.returns-clause-operates
-returns-clause-operates c = let o = c.over-source.ensures in let a = c.args in let zz = set_so a.image.now c.take_in.new.words c.take_in.new.tags c.take_in.result c.take_in.ensures _ _ _ _ _ _ _ _ _ _ _ _ c.requires a.offset c.in_ok-n.n c.in_ok-n.was _ _ _ _ _ _ _ (rw (c.source.ensures.0, c.source.ensures.1, o.0, o.2, o.3) at c.in_ok-sizes.ensures.does) refl in record { does = zz.0; valid = zz.1; same = record { words_same = refl; tags_same = refl; derived_same = c.set_source.ensures.same; special_same = refl; stacks_same = refl } }
+returns-clause-operates c = let o = c.over-source.ensures in let a = c.args in let zz = set_so a.image.now c.take_in.new.words c.take_in.new.tags c.take_in.result c.take_in.ensures _ _ _ _ _ _ _ _ _ _ _ _ c.requires a.offset c.in_ok-n.n c.in_ok-n.was _ _ _ _ _ _ _ (rw (c.source.ensures.0, c.source.ensures.1, o.0, o.2, o.3) at c.in_ok-sizes.ensures.does) refl in rw (c.replace.ensures.0, c.replace.ensures.1) (record { does = zz.0; valid = zz.1; same = record { words_same = refl; tags_same = refl; derived_same = c.set_source.ensures.same; special_same = refl; stacks_same = refl } })
