@@ -3,3 +3,4 @@ pub mod Plain
 pub mod Importing
 pub mod Setting
 pub mod Finishing
+mod Replacing

@@ -176,14 +176,17 @@ fn set_first_source(session: &mut Session, image: &[u8], offset: u32) -> Result<
     Ok(())
 }
 
-// Puts the words of a source and their classes in place of others. A function of its own, with the arrays as parameters: those behind the fields of a session the compiler does not
-// tell apart, and copies them by memmove, which the archive would need from outside, beside memcpy and memset.
-#[inline(never)]
+// Puts the words of a source and their classes in place of others. By loops: an array behind a reference is copied by memmove, which the archive would need from outside, beside memcpy and
+// memset.
 fn replace(words: &mut Words, tags: &mut Tags, by: &Words, classes: &Tags)
     ensures { (words.new ≡ by.now) × (tags.new ≡ classes.now) }
 {
-    *words = *by;
-    *tags = *classes;
+    for j in 0..by.len() {
+        words[j] = by[j];
+    }
+    for k in 0..classes.len() {
+        tags[k] = classes[k];
+    }
 }
 
 // set_shader_source: the image with the offset. A source that is set stays until the image is accepted and fits.
