@@ -4,13 +4,14 @@
     tools/list_changes.py LIST.json
 
 LIST.json is what the kit's list of contracts gives for the tree of that commit and this one, as JSON. What states the promise of a function that went is told by hand: a row that the page
-has already is kept, a new one gets a `?`."""
+has already is kept, a new one gets a `?`. The section on lemmas that went is kept as it stands."""
 import json
 import re
 import sys
 
 PAGE = "docs/DESIGN-PASS.md"
 FIRST = "## Functions that went, and what states their promise now"
+LEMMAS = "## Lemmas that went, and what states their promise now"
 
 
 def place(name):
@@ -35,14 +36,17 @@ def section(title, rule, lines):
 def main():
     changes = json.load(open(sys.argv[1], encoding="utf-8"))
     page = open(PAGE, encoding="utf-8").read()
-    known = dict(re.findall(r"^\| `(\w+::\w+)` \| (.*) \|$", page, re.M))
+    known = {name: row for row, name in re.findall(r"^(\| `(\w+::\w+)`[^|]* \| .* \|)$", page, re.M)}
 
     out = [FIRST, "", "| was | promise |", "|---|---|"]
     for row in changes["functions not found again"]:
         crate, name = re.match(r"(\S+) \S+ (\S+)", row).groups()
         key = crate + "::" + name
-        out.append("| `%s` | %s |" % (key, known.get(key, "?")))
+        out.append(known.get(key, "| `%s` | ? |" % key))
     out.append("")
+
+    # LIST.json has no lemmas
+    out += re.search("^%s$.*?(?=^## )" % re.escape(LEMMAS), page, re.M | re.S)[0].splitlines()
 
     both = "Old behind `-`, new behind `+`."
     lines = []

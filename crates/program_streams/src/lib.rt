@@ -4,11 +4,14 @@
 // `println!(program.rt; ..)`, and what reads takes the whole of `HostRuntime`, so that the struct would have a type parameter with another bound in each method.
 #![tactic(auto)]
 
-ghost use Rattle.std.specs.Prelude.{◌≡◌, ◌≤◌, ◌<◌, length, MatchOption, MatchResult};
+ghost use Rattle.std.specs.Prelude.{◌≡◌, ◌≤◌, ◌<◌, length, IfOk, MatchOption, MatchResult};
 ghost use Rattle.base_refusals.specs.Numbers.{number_of};
 
 use base_refusals::Refusal;
 use std::io::{self, Read};
+
+#[cfg(test)]
+mod tests;
 
 // A read that failed: how many bytes are at the start of the buffer from those before it, and the error.
 #[derive(Clone, Copy)]
@@ -17,8 +20,8 @@ pub struct ReadError {
     pub error: io::Error,
 }
 
-// Reads until buf is full, the input ends or a read fails: how many bytes are at the start of buf. Where a read failed, buf is not full.
-pub fn read<R: Read>(from: &mut R, buf: &mut [u8]) -> Result<usize, ReadError>
+// Reads until buf is full, the input ends or a read fails: how many bytes are at the start of buf, also where a read failed. Then buf is not full.
+pub fn read_counted<R: Read>(from: &mut R, buf: &mut [u8]) -> Result<usize, ReadError>
     ensures { MatchResult result (λ n. n ≤ length buf.new) (λ e. e.count < length buf.new) }
 {
     let mut done = 0;
@@ -33,6 +36,13 @@ pub fn read<R: Read>(from: &mut R, buf: &mut [u8]) -> Result<usize, ReadError>
         done += n;
     }
     Ok(done)
+}
+
+// The same without the count of a read that failed: its error is the reader's own.
+pub fn read<R: Read>(from: &mut R, buf: &mut [u8]) -> io::Result<usize>
+    ensures { IfOk result (λ n. n ≤ length buf.new) }
+{
+    read_counted(from, buf).map_err(|failed| failed.error)
 }
 
 // Reads an image from standard input and gives it to `answer`, or reports that it could not be read. Input longer than an image may be is not cut to an
@@ -52,7 +62,7 @@ pub fn with_input<F: FnOnce(&mut [u8])>(
 )
     requires { F.IsAlwaysCallable answer }
 {
-    match read(&mut rt.stdin(), bytes) {
+    match read_counted(&mut rt.stdin(), bytes) {
         Ok(n) => answer(&mut bytes[..n]),
         Err(failed) => unread(rt, program, failed.error),
     }

@@ -8,7 +8,7 @@ use wuldgisp::wuldgisp_intake;
 // What precedes an image: the expected answer, and the image's length; or none at the end of the input.
 fn head<R: Read>(from: &mut R) -> io::Result<Option<(u32, usize)>> {
     let mut bytes = [0u8; 8];
-    if program_streams::read(from, &mut bytes).map_err(|failed| failed.error)? < 8 {
+    if program_streams::read_counted(from, &mut bytes).map_err(|failed| failed.error)? < 8 {
         return Ok(None);
     }
     let want = base_words::word_at(&bytes, 0);
@@ -18,7 +18,7 @@ fn head<R: Read>(from: &mut R) -> io::Result<Option<(u32, usize)>> {
 
 // Reads an image that is as long as the slice, and compares intake's answer. A read that fails is a vector that is answered otherwise; the next read tells it.
 fn one<R: Read>(from: &mut R, bytes: &mut [u8], want: u32) -> bool {
-    match program_streams::read(from, bytes) {
+    match program_streams::read_counted(from, bytes) {
         Ok(n) => n == bytes.len() && wuldgisp_intake(bytes) == want,
         Err(_) => false,
     }

@@ -14,7 +14,7 @@ ghost use Rattle.function_references.specs.Fits.{Ground};
 ghost use Rattle.derive_finish.specs.Told.{refusal_of, bytes_in};
 ghost use Rattle.session_operations.specs.Operations.{MapSpanEnsures, RequiredEnsures};
 ghost use Rattle.session_operations.specs.Answers.{value_in, start_of, end_of};
-ghost use Rattle.session_operations.specs.Sessions.{is_set, offset_in, Absent, ValidRecords, OperatesOnRecords, FinishesRecords, ImportStays, FinishStays, renewed};
+ghost use Rattle.session_operations.specs.Sessions.{is_set, offset_in, Absent, Valid, ValidRecords, OperatesOnRecords, FinishesRecords, Operates, Finishes, ImportStays, FinishStays, renewed};
 
 use base_handles::{RecordHandle, TypeHandle};
 use base_refusals::Refusal;
@@ -25,6 +25,9 @@ use derive_rollback::mapped_to;
 use derive_source::set_source;
 use derive_state::{DerivedMut, NamedSource, Reference, Sizes, Special, StackRows, clear_maps};
 use std::num::wrapping_add_u32;
+
+#[cfg(test)]
+mod tests;
 
 // A source that is set: the number of its words, and the offset of its spans.
 #[derive(Clone, Copy)]
@@ -85,6 +88,7 @@ pub struct Session<'a, 'd> {
 pub fn import(session: &mut Session, handle: RecordHandle) -> Result<u32, Refusal>
     requires { ValidRecords session.old }
     ensures operates { OperatesOnRecords {A = ℕ} (importing (table_of handle) (number_in handle)) session.old (refusal_of result) (value_in result) session.new }
+    ensures valid { Valid session.old → Operates {A = ℕ} (importing (table_of handle) (number_in handle)) session.old (refusal_of result) (value_in result) session.new }
     ensures stays { ImportStays session.old session.new }
     ensures stacks { session.new.stacks.now ≡ session.old.stacks.now }
 {
@@ -99,6 +103,7 @@ pub fn import(session: &mut Session, handle: RecordHandle) -> Result<u32, Refusa
 pub fn rename_type(session: &mut Session, h: TypeHandle, name: u32) -> Result<u32, Refusal>
     requires { ValidRecords session.old }
     ensures operates { OperatesOnRecords {A = ℕ} (rename_type h.0 name) session.old (refusal_of result) (value_in result) session.new }
+    ensures valid { Valid session.old → Operates {A = ℕ} (rename_type h.0 name) session.old (refusal_of result) (value_in result) session.new }
     ensures stays { ImportStays session.old session.new }
     ensures stacks { session.new.stacks.now ≡ session.old.stacks.now }
 {
@@ -193,6 +198,7 @@ fn replace(words: &mut Words, tags: &mut Tags, by: &Words, classes: &Tags)
 pub fn set_shader_source(session: &mut Session, image: &[u8], offset: u32) -> Result<(), Refusal>
     requires { ValidRecords session.old }
     ensures operates { OperatesOnRecords {A = Unit {0}} (setOf (length image.now) (words_of image.now) offset) session.old (refusal_of result) tt session.new }
+    ensures valid { Valid session.old → Operates {A = Unit {0}} (setOf (length image.now) (words_of image.now) offset) session.old (refusal_of result) tt session.new }
     ensures stacks { session.new.stacks.now ≡ session.old.stacks.now }
 {
     if session.source.is_none() {
@@ -229,6 +235,7 @@ pub fn renew(session: &mut Session)
 pub fn finish_plain(session: &mut Session, output: &mut [u8]) -> Result<usize, Refusal>
     requires { ValidRecords session.old }
     ensures finishes { FinishesRecords (finishOf (length output.old)) session.old (refusal_of result) (bytes_in result) output.old output.new session.new }
+    ensures valid { Valid session.old → Finishes (finishOf (length output.old)) session.old (refusal_of result) (bytes_in result) output.old output.new session.new }
     ensures stays { FinishStays session.old (refusal_of result) session.new }
     ensures log { (session.new.derived.log.now ≡ session.old.derived.log.now) × (session.new.derived.logtags.now ≡ session.old.derived.logtags.now) × (session.new.derived.buckets.now ≡ session.old.derived.buckets.now) }
     ensures stacks { session.new.stacks.now ≡ session.old.stacks.now }

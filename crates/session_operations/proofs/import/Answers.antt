@@ -8,6 +8,7 @@ use Rattle.session_operations.proofs.Importing.{section_low, section_is, source-
 use Rattle.std.proofs.lemmas.Result.{err_from_is_err_and}
 use Rattle.session_operations.proofs.Memory.{memory_same, set_not, set_ground}
 use native.Mathlib.Omega.{arith}
+use Rattle.session_operations.specs.Theorems.{operates_valid}
 use Rattle.session_operations.proofs.import.Goals as goal
 
 pub source_with-requires : goal.source_with-requires
@@ -33,3 +34,12 @@ mapped_to-requires c = let a = c.args in let L = rw c.in_ok-source.ensures.0 at 
 
 pub returns-clause-operates : goal.returns-clause-operates
 returns-clause-operates c = let o = c.in_ok-source.ensures in let a = c.args in let L = rw c.in_ok-source.ensures.0 at c.requires in let v = c.view.ensures in let zz = import_room _ _ _ _ _ _ _ _ _ _ _ c.from-r.result.table c.from-r.result.number (section_low c.args.handle _ (ap (λ q. q.table) c.from-r.ensures)).0 (section_low c.args.handle _ (ap (λ q. q.table) c.from-r.ensures)).1 _ _ _ _ _ _ true L refl c.in_ok-source.ensures.3 (rw (c.source.ensures.0, c.source.ensures.1, o.1) at c.in_ok-sizes.ensures.does) refl _ (rw v.3 at c.mapped_to.ensures) in rw (← section_is c.args.handle _ (ap (λ q. q.table) c.from-r.ensures), ← (ap (λ q. q.number) c.from-r.ensures)) (record { does = rw c.in_ok-source.ensures.0 zz.0; valid = rw c.in_ok-source.ensures.0 zz.1; same = record { words_same = refl; tags_same = refl; derived_same = c.import.ensures.same; special_same = refl; stacks_same = refl } })
+
+pub returns-in_err-source-clause-valid : goal.returns-in_err-source-clause-valid
+returns-in_err-source-clause-valid c = λ v. operates_valid v refl (returns-in_err-source-clause-operates c)
+
+pub returns-in_err-sizes-clause-valid : goal.returns-in_err-sizes-clause-valid
+returns-in_err-sizes-clause-valid c = λ v. operates_valid v refl (returns-in_err-sizes-clause-operates c)
+
+pub returns-clause-valid : goal.returns-clause-valid
+returns-clause-valid c = λ v. operates_valid v refl (returns-clause-operates c)

@@ -7,6 +7,7 @@ use Rattle.derive_imports.proofs.Sources.{small_number}
 use Rattle.session_operations.proofs.Importing.{below, source-held, rename_unset, rename-none, rename_no_name, rename_full, rename-room}
 use Rattle.std.proofs.lemmas.Result.{err_from_is_err_and}
 use Rattle.session_operations.proofs.Memory.{memory_same, set_not, set_ground}
+use Rattle.session_operations.specs.Theorems.{operates_valid}
 use Rattle.session_operations.proofs.rename_type.Goals as goal
 
 pub returns-in_err-source-clause-operates : goal.returns-in_err-source-clause-operates
@@ -35,3 +36,15 @@ mapped_to-requires c = let a = c.args in let L = rw c.in_ok-source.ensures.0 at 
 
 pub returns-clause-operates : goal.returns-clause-operates
 returns-clause-operates c = let o = c.in_ok-source.ensures in let a = c.args in let L = rw c.in_ok-source.ensures.0 at c.requires in let v = c.view.ensures in let zz = rename-room _ _ _ _ _ _ _ _ _ _ _ a.h.0 a.name _ _ _ _ _ _ true L refl (rw c.from-r.ensures at c.in_ok-source.ensures.3) (below (rw c.in_ok-source.ensures.1 at c.count.ensures.0) refl c.if-count-name.false) (rw (c.source.ensures.0, c.source.ensures.1, o.1) at c.in_ok-sizes.ensures.does) refl _ (rw (v.3, c.from-r.ensures) at c.mapped_to.ensures) in record { does = rw c.in_ok-source.ensures.0 zz.0; valid = rw c.in_ok-source.ensures.0 zz.1; same = record { words_same = refl; tags_same = refl; derived_same = c.rename_type.ensures.same; special_same = refl; stacks_same = refl } }
+
+pub returns-in_err-source-clause-valid : goal.returns-in_err-source-clause-valid
+returns-in_err-source-clause-valid c = λ v. operates_valid v refl (returns-in_err-source-clause-operates c)
+
+pub returns-then-count-name-clause-valid : goal.returns-then-count-name-clause-valid
+returns-then-count-name-clause-valid c = λ v. operates_valid v refl (returns-then-count-name-clause-operates c)
+
+pub returns-in_err-sizes-clause-valid : goal.returns-in_err-sizes-clause-valid
+returns-in_err-sizes-clause-valid c = λ v. operates_valid v refl (returns-in_err-sizes-clause-operates c)
+
+pub returns-clause-valid : goal.returns-clause-valid
+returns-clause-valid c = λ v. operates_valid v refl (returns-clause-operates c)

@@ -5,7 +5,6 @@ use Rattle.std.proofs.lemmas.Result.{err_from_is_err_and}
 use Rattle.derive_state.proofs.State.{arrays_same}
 use Rattle.derive_session.specs.Valid.{session_of}
 use Rattle.session_operations.specs.Sessions.{meant}
-use Rattle.session_operations.specs.Theorems.{operates_valid}
 use Rattle.session_operations.proofs.Memory.{memory_same}
 use Rattle.session_operations.proofs.Finishing.{unset_valid}
 use Rattle.session_steps.proofs.Saying.{first_is, number_is, none_stepped, clear-stepped, clear-live, span_stepped, required_stepped, bit_is, type_recorded, rename_recorded, constant_recorded, override_recorded, global_recorded, expression_recorded, function_recorded, new_recorded, handle_recorded, by_number, by_first}
@@ -28,22 +27,22 @@ pub returns-in-HasRequiredSpecialTypes : goal.returns-in-HasRequiredSpecialTypes
 returns-in-HasRequiredSpecialTypes c = let a = c.args in record { does = by_number a.step.a a.step.b a.step.c a.sources.now a.output.now (meant a.session.now) (number_is c.in_ok-try_from.ensures c.in-HasRequiredSpecialTypes.is) (required_stepped _ _ _ _ _ _ _ _ _ _ a.step.a a.step.b a.step.c a.sources.now a.output.now _ c.has_required_special_types-held.ensures _ (bit_is _ _ c.from.ensures)); valid = record { session = c.requires.session; stacks = c.requires.stacks }; same = record { words_same = refl; tags_same = refl; derived_same = arrays_same _; special_same = refl; stacks_same = refl } }
 
 pub returns-in-ImportType : goal.returns-in-ImportType
-returns-in-ImportType c = let a = c.args in rw c.imported.ensures (record { does = by_first (first_is c.import.result) ((type_recorded (number_is c.in_ok-try_from.ensures c.in-ImportType.is) c.import.ensures.operates.does).is a.sources.now a.output.now); valid = (operates_valid c.requires c.import.ensures.stacks c.import.ensures.operates).valid; same = c.import.ensures.operates.same })
+returns-in-ImportType c = let a = c.args in rw c.imported.ensures (record { does = by_first (first_is c.import.result) ((type_recorded (number_is c.in_ok-try_from.ensures c.in-ImportType.is) c.import.ensures.operates.does).is a.sources.now a.output.now); valid = (c.import.ensures.valid c.requires).valid; same = c.import.ensures.operates.same })
 
 pub returns-in-RenameType : goal.returns-in-RenameType
-returns-in-RenameType c = let a = c.args in rw c.imported-in-RenameType.ensures (record { does = by_first (first_is c.rename_type.result) ((rename_recorded (number_is c.in_ok-try_from.ensures c.in-RenameType.is) c.rename_type.ensures.operates.does).is a.sources.now a.output.now); valid = (operates_valid c.requires c.rename_type.ensures.stacks c.rename_type.ensures.operates).valid; same = c.rename_type.ensures.operates.same })
+returns-in-RenameType c = let a = c.args in rw c.imported-in-RenameType.ensures (record { does = by_first (first_is c.rename_type.result) ((rename_recorded (number_is c.in_ok-try_from.ensures c.in-RenameType.is) c.rename_type.ensures.operates.does).is a.sources.now a.output.now); valid = (c.rename_type.ensures.valid c.requires).valid; same = c.rename_type.ensures.operates.same })
 
 pub returns-in-ImportConst : goal.returns-in-ImportConst
-returns-in-ImportConst c = let a = c.args in rw c.imported-in-ImportConst.ensures (record { does = by_first (first_is c.import-in-ImportConst.result) ((constant_recorded (number_is c.in_ok-try_from.ensures c.in-ImportConst.is) c.import-in-ImportConst.ensures.operates.does).is a.sources.now a.output.now); valid = (operates_valid c.requires c.import-in-ImportConst.ensures.stacks c.import-in-ImportConst.ensures.operates).valid; same = c.import-in-ImportConst.ensures.operates.same })
+returns-in-ImportConst c = let a = c.args in rw c.imported-in-ImportConst.ensures (record { does = by_first (first_is c.import-in-ImportConst.result) ((constant_recorded (number_is c.in_ok-try_from.ensures c.in-ImportConst.is) c.import-in-ImportConst.ensures.operates.does).is a.sources.now a.output.now); valid = (c.import-in-ImportConst.ensures.valid c.requires).valid; same = c.import-in-ImportConst.ensures.operates.same })
 
 pub returns-in-ImportPipelineOverride : goal.returns-in-ImportPipelineOverride
-returns-in-ImportPipelineOverride c = let a = c.args in rw c.imported-in-ImportPipelineOverride.ensures (record { does = by_first (first_is c.import-in-ImportPipelineOverride.result) ((override_recorded (number_is c.in_ok-try_from.ensures c.in-ImportPipelineOverride.is) c.import-in-ImportPipelineOverride.ensures.operates.does).is a.sources.now a.output.now); valid = (operates_valid c.requires c.import-in-ImportPipelineOverride.ensures.stacks c.import-in-ImportPipelineOverride.ensures.operates).valid; same = c.import-in-ImportPipelineOverride.ensures.operates.same })
+returns-in-ImportPipelineOverride c = let a = c.args in rw c.imported-in-ImportPipelineOverride.ensures (record { does = by_first (first_is c.import-in-ImportPipelineOverride.result) ((override_recorded (number_is c.in_ok-try_from.ensures c.in-ImportPipelineOverride.is) c.import-in-ImportPipelineOverride.ensures.operates.does).is a.sources.now a.output.now); valid = (c.import-in-ImportPipelineOverride.ensures.valid c.requires).valid; same = c.import-in-ImportPipelineOverride.ensures.operates.same })
 
 pub returns-in-ImportGlobal : goal.returns-in-ImportGlobal
-returns-in-ImportGlobal c = let a = c.args in rw c.imported-in-ImportGlobal.ensures (record { does = by_first (first_is c.import-in-ImportGlobal.result) ((global_recorded (number_is c.in_ok-try_from.ensures c.in-ImportGlobal.is) c.import-in-ImportGlobal.ensures.operates.does).is a.sources.now a.output.now); valid = (operates_valid c.requires c.import-in-ImportGlobal.ensures.stacks c.import-in-ImportGlobal.ensures.operates).valid; same = c.import-in-ImportGlobal.ensures.operates.same })
+returns-in-ImportGlobal c = let a = c.args in rw c.imported-in-ImportGlobal.ensures (record { does = by_first (first_is c.import-in-ImportGlobal.result) ((global_recorded (number_is c.in_ok-try_from.ensures c.in-ImportGlobal.is) c.import-in-ImportGlobal.ensures.operates.does).is a.sources.now a.output.now); valid = (c.import-in-ImportGlobal.ensures.valid c.requires).valid; same = c.import-in-ImportGlobal.ensures.operates.same })
 
 pub returns-in-ImportGlobalExpression : goal.returns-in-ImportGlobalExpression
-returns-in-ImportGlobalExpression c = let a = c.args in rw c.imported-in-ImportGlobalExpression.ensures (record { does = by_first (first_is c.import-in-ImportGlobalExpression.result) ((expression_recorded (number_is c.in_ok-try_from.ensures c.in-ImportGlobalExpression.is) c.import-in-ImportGlobalExpression.ensures.operates.does).is a.sources.now a.output.now); valid = (operates_valid c.requires c.import-in-ImportGlobalExpression.ensures.stacks c.import-in-ImportGlobalExpression.ensures.operates).valid; same = c.import-in-ImportGlobalExpression.ensures.operates.same })
+returns-in-ImportGlobalExpression c = let a = c.args in rw c.imported-in-ImportGlobalExpression.ensures (record { does = by_first (first_is c.import-in-ImportGlobalExpression.result) ((expression_recorded (number_is c.in_ok-try_from.ensures c.in-ImportGlobalExpression.is) c.import-in-ImportGlobalExpression.ensures.operates.does).is a.sources.now a.output.now); valid = (c.import-in-ImportGlobalExpression.ensures.valid c.requires).valid; same = c.import-in-ImportGlobalExpression.ensures.operates.same })
 
 pub returns-in-ImportFunction : goal.returns-in-ImportFunction
 returns-in-ImportFunction c = let a = c.args in rw c.imported-in-ImportFunction.ensures (record { does = by_first (first_is c.import_function.result) ((function_recorded (number_is c.in_ok-try_from.ensures c.in-ImportFunction.is) c.import_function.ensures.operates.does).is a.sources.now a.output.now); valid = c.import_function.ensures.operates.valid; same = c.import_function.ensures.operates.same })
