@@ -67,7 +67,7 @@ pub record FinishesRecords (op : Session' → Answer (List ℕ)) (s : Session) (
   pub valid : ValidRecords s'
   pub same : SameMemory s s'
 
--- on functions, and on records of a session whose stacks are valid (`operates_valid`, `finishes_valid` of Theorems): it is valid, stacks too
+-- on functions, and on records of a session whose stacks are valid, by the clause `valid` of each operation: it is valid, stacks too
 pub record Operates {A : Type 0} (op : Session' → Answer A) (s : Session) (refusal : ℕ) (value : A) (s' : Session) : Type 0 where
   pub does : OperationEnsures op (meant s) refusal value (meant s')
   pub valid : Valid s'

@@ -1,6 +1,7 @@
 // A session in arrays of the caller, and its operations, except those on functions: each makes its tests in document 01's sequence, and where it is refused the
 // session is as it was. They are functions of a session and no methods, as those of session_functions, another crate, have to be. Handles are of the source's records; what an import
-// answers is a number of the derived module, as C reads it.
+// answers is a number of the derived module, as C reads it. None asks anything of the stacks: where these have their lengths, as operations on functions ask, the clause `valid` says that
+// they keep them.
 #![tactic(auto)]
 
 ghost use Rattle.std.specs.Prelude.{MatchResult, Some, ◌≡◌, ℕ, ◌<◌, ◌≤◌, false, length};
