@@ -23,16 +23,15 @@ impl Read for Halting {
 #[test]
 fn reads(rt: HostRuntime) {
     for (left, fails, want) in [
-        (0, false, Some(0)),
-        (5, false, Some(5)),
-        (9, false, Some(8)),
-        (9, true, Some(8)),
-        (5, true, None),
-        (0, true, None),
+        (0, false, Ok(0)),
+        (5, false, Ok(5)),
+        (9, false, Ok(8)),
+        (9, true, Ok(8)),
+        (5, true, Err(ErrorKind::TimedOut)),
+        (0, true, Err(ErrorKind::TimedOut)),
     ] {
         let said = read(&mut Halting { left, fails }, &mut [0; 8]);
-        assert_eq!(rt; said.is_err(), want.is_none(), "of {left}");
-        assert_eq!(rt; said.ok(), want, "of {left}");
+        assert_eq!(rt; said.map_err(|error| error.kind()), want, "of {left}");
     }
 }
 
