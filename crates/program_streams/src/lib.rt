@@ -20,7 +20,7 @@ pub struct ReadError {
     pub error: io::Error,
 }
 
-// Reads until buf is full, the input ends or a read fails: how many bytes are at the start of buf, also where a read failed. Then buf is not full.
+// Reads until buf is full, the input ends or a read fails: how many bytes are at the start of buf. A read that failed is told with that count, and buf is not full.
 pub fn read_counted<R: Read>(from: &mut R, buf: &mut [u8]) -> Result<usize, ReadError>
     ensures { MatchResult result (λ n. n ≤ length buf.new) (λ e. e.count < length buf.new) }
 {
